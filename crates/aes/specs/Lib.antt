@@ -1,0 +1,4 @@
+pub mod Cipher
+pub mod FourRounds
+pub mod Promise
+pub mod Schedule

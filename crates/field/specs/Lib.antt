@@ -1,0 +1,4 @@
+pub mod Field
+pub mod Sbox
+pub mod Promise
+pub mod Figures
