@@ -1,9 +1,11 @@
 // Chains of blocks, for counting instructions: the schedule is made once, each block goes through
 // one public call. docs/BENCH.md has the commands.
 //
-// Standard input is a letter and a digit: E or G, and how many times 4,096 blocks. The last block
-// of the chain is written, 16 bytes.
+// Standard input is a letter and a digit: E or G, and how many times 4,096 blocks; or A, a digit and
+// another: how many times 4,096 blocks are absorbed where they lie, and the order. The last block of
+// the chain is written, 16 bytes.
 ghost use Prim.Native.Nat.{_<_};
+use chain::Chain;
 use libc::STDOUT_FILENO;
 
 struct Keys {
@@ -57,9 +59,37 @@ fn times(digit: u8) -> usize
     (digit - b'0') as usize
 }
 
+// The chain value after a part of 4,096 blocks, absorbed so many times.
+fn absorbed(order: usize, times: usize) -> [u8; 16]
+    requires { ⌜ times < 10 ⌝ }
+{
+    let made = keys::key_call(order, 128, &[7u8; 16], &[9u8; 16]);
+    let set = made.keys;
+    let round = set.round;
+    let subkeys = set.subkeys;
+    let part = [5u8; 65536];
+    let mut c = Chain {
+        value: [0u8; 16],
+        whole: 0,
+        four: 0,
+    };
+    let mut n: usize = 0;
+    while n < times {
+        let next = engine::absorb(set.order, &round, &subkeys, 4096 * n, c, &part);
+        c = next;
+        n += 1;
+    }
+    c.value
+}
+
 fn main() {
-    let mut asked = [0u8; 2];
+    let mut asked = [0u8; 3];
     io::read_full(0, &mut asked);
+    if asked[0] == b'A' {
+        let value = absorbed(times(asked[2]), times(asked[1]));
+        io::write_all(STDOUT_FILENO, &value);
+        return;
+    }
     let w = aes::expand_key([7u8; 16]);
     let last = chain(asked[0] == b'E', &w, keys_for(&w), times(asked[1]) * 4096);
     io::write_all(STDOUT_FILENO, &last);

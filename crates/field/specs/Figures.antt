@@ -17,8 +17,12 @@ pub record Substituted : Type 0 where
 abbrev pub substitutions : List Substituted
 substitutions = record { byte = 0x00; by = 0x63 } ∷ record { byte = 0x53; by = 0xed } ∷ []
 
--- the definition gives each row of the table
-pub substitutions-hold : Each (λ row. subByte (row .byte) ≡ row .by) substitutions
+-- S gives each row of the table
+abbrev pub SubstitutionsHold : Type 0
+SubstitutionsHold = Each (λ row. subByte (row .byte) ≡ row .by) substitutions
+
+-- and so it does
+pub substitutions-hold : SubstitutionsHold
 unfolding subByte affine affineDigits affineDigit digit inverse powDigits mulDigits xtime
 substitutions-hold = (refl, (refl, tt))
 

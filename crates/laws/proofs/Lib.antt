@@ -1,5 +1,9 @@
 pub mod Agree
+pub mod Bytes
+pub mod Cases
 pub mod Copied
+pub mod Entered
 pub mod Four
 pub mod Once
+pub mod Up
 pub mod Xor

@@ -16,10 +16,10 @@ agree f g zero = true
 agree f g (suc n) = both (eqb (f n) (g n)) (agree f g n)
 
 -- f i, f (i + 1), .., n of them
-abbrev pub from : ℕ → ℕ → (ℕ → ℕ) → List ℕ
+abbrev pub from : {A : Type 0} → ℕ → ℕ → (ℕ → A) → List A
 from i zero f = []
 from i (suc n) f = f i ∷ from (suc i) n f
 
 -- the table of f: f 0, f 1, .., f (n - 1)
-abbrev pub table : (ℕ → ℕ) → ℕ → List ℕ
+abbrev pub table : {A : Type 0} → (ℕ → A) → ℕ → List A
 table f n = from 0 n f

@@ -4,16 +4,11 @@ use mathlib.Core.Path.{_≡_}
 use mathlib.Core.List.{List, [], _∷_}
 use Prim.Native.Nat.{ℕ, _*_, _/_, _%_, _<_}
 use lib.ListN.{getD}
-use mir.Syntax.{w8}
-use mir.Val.{Fits}
 use Rattle.laws.proofs.Agree.{agreed}
+use Rattle.laws.proofs.Bytes.{Bytes}
 use Rattle.field.specs.Field.{_⊕_, xtime, mulDigits, mul}
 use Rattle.field.proofs.Linear.{mix-once}
 use Rattle.state.specs.State.{word, xorWord, mix}
-
--- each entry of the list is a byte
-abbrev pub Bytes : List ℕ → Type 0
-Bytes p = (j : ℕ) → Fits w8 (getD p j 0)
 
 -- two functions that agree on bytes make the same word of a word
 pub word-agree : (f g : ℕ → ℕ) (p : List ℕ) → Bytes p → ((x : ℕ) → x < 256 → f x ≡ g x)

@@ -1,7 +1,8 @@
 -- `state::doubled` meets its contract. What it does to a byte is {02} times the byte, by one test over all bytes; a word is four of them.
 -- Assumes nothing.
 use Rattle.field.specs.Field.{mul}
-use Rattle.state.proofs.Words.{Bytes, three, twice, twice-is, word-agree}
+use Rattle.laws.proofs.Bytes.{Bytes}
+use Rattle.state.proofs.Words.{three, twice, twice-is, word-agree}
 use borrow.Author.Needs.{needs}
 use Rattle.state.proofs.doubled.Statement.{statement}
 use Rattle.state.proofs.doubled.Tie as tie

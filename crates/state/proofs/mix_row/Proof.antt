@@ -1,6 +1,7 @@
 -- `state::mix_row` meets its contract. Its callees' words, put together, are a row of MixColumns with one doubling in place of two.
 -- Assumes nothing.
-use Rattle.state.proofs.Words.{Bytes, mix-rows}
+use Rattle.laws.proofs.Bytes.{Bytes}
+use Rattle.state.proofs.Words.{mix-rows}
 use borrow.Author.Needs.{needs}
 use Rattle.state.proofs.mix_row.Statement.{statement}
 use Rattle.state.proofs.mix_row.Tie as tie

@@ -1,0 +1,5 @@
+pub mod Bits
+pub mod Block
+pub mod Blocks
+pub mod Joined
+pub mod Pad

@@ -1,0 +1,4 @@
+pub mod Walk
+pub mod Cut
+pub mod View
+pub mod Count

@@ -1,0 +1,6 @@
+pub mod Arrangement
+pub mod Made
+pub mod Number
+pub mod Ran
+pub mod KeysIn
+pub mod Laid

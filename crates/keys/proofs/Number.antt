@@ -1,0 +1,82 @@
+-- The key call's number by cases, and what number 0 tells.
+-- Assumes nothing.
+use mathlib.Core.Path.{_≡_, refl}
+use mathlib.Core.Bool.{Bool, true, false}
+use mathlib.Core.List.{List}
+use Prim.Native.Nat.{ℕ, zero, suc, _≤_, _<_}
+use native.Mathlib.Omega.{arith}
+use lib.Dec.{eqb, ltb}
+use lib.ListN.{length}
+use borrow.Author.Tests.{lt-ltb, le-ltb, ltb-false, eq-eqb, ne-eqb, eqb-true}
+use Rattle.laws.specs.Agree.{both}
+use Rattle.laws.specs.Pick.{pick}
+use Rattle.pcmac.specs.Limits.{resolved, resolvedOrder, resolvedTag}
+use Rattle.keys.specs.Answer.{keyNumber, doneKeys, refusedKeys, keyAnswer}
+
+module _ (order bits k l : ℕ) where
+  pub number-order : 5 < order → keyNumber order bits k l ≡ 1
+  unfolding keyNumber
+  number-order a = rw (lt-ltb 5 order a)
+
+  pub number-tag : order ≤ 5 → 128 < bits → keyNumber order bits k l ≡ 2
+  unfolding keyNumber
+  number-tag a b = rw (le-ltb 5 order a, lt-ltb 128 bits b)
+
+  pub number-k : order ≤ 5 → bits ≤ 128 → (k ≡ 16 → ⊥) → keyNumber order bits k l ≡ 3
+  unfolding keyNumber
+  number-k a b c = rw (le-ltb 5 order a, le-ltb 128 bits b, ne-eqb k 16 c)
+
+  pub number-l : order ≤ 5 → bits ≤ 128 → k ≡ 16 → (l ≡ 16 → ⊥) → keyNumber order bits k l ≡ 3
+  unfolding keyNumber
+  number-l a b c d = rw (le-ltb 5 order a, le-ltb 128 bits b, eq-eqb k 16 c, ne-eqb l 16 d)
+
+  pub number-none : order ≤ 5 → bits ≤ 128 → k ≡ 16 → l ≡ 16 → keyNumber order bits k l ≡ 0
+  unfolding keyNumber
+  number-none a b c d = rw (le-ltb 5 order a, le-ltb 128 bits b, eq-eqb k 16 c, eq-eqb l 16 d)
+
+-- what the key call was handed has no fault
+pub record Faultless (order bits k l : ℕ) : Type 0 where
+  pub order-fits : order ≤ 5
+  pub tag-fits : bits ≤ 128
+  pub k-size : k ≡ 16
+  pub l-size : l ≡ 16
+
+-- number 0 says so
+pub number-faultless : (order bits k l : ℕ) → keyNumber order bits k l ≡ 0 → Faultless order bits k l
+unfolding keyNumber
+number-faultless order bits k l e = by (ltb 5 order) (ltb 128 bits) (eqb k 16) (eqb l 16) refl refl refl refl e
+  where
+    by : (a b c d : Bool) → ltb 5 order ≡ a → ltb 128 bits ≡ b → eqb k 16 ≡ c → eqb l 16 ≡ d
+        → pick {A = ℕ} a 1 (pick b 2 (pick (both c d) 0 3)) ≡ 0 → Faultless order bits k l
+    by true b c d ea eb ec ed e = absurd (omega arith)
+    by false true c d ea eb ec ed e = absurd (omega arith)
+    by false false false d ea eb ec ed e = absurd (omega arith)
+    by false false true false ea eb ec ed e = absurd (omega arith)
+    by false false true true ea eb ec ed e = record {
+      order-fits = ltb-false 5 order ea;
+      tag-fits = ltb-false 128 bits eb;
+      k-size = eqb-true k 16 ec;
+      l-size = eqb-true l 16 ed;
+    }
+
+-- the order that is meant is 1 to 5
+pub resolved-some : (order : ℕ) → 1 ≤ resolvedOrder order
+unfolding resolved
+resolved-some zero = omega arith
+resolved-some (suc n) = rw (ne-eqb (suc n) 0 (λ z. omega arith)) (omega arith)
+
+pub resolved-most : (order : ℕ) → order ≤ 5 → resolvedOrder order ≤ 5
+unfolding resolved
+resolved-most zero h = omega arith
+resolved-most (suc n) h = rw (ne-eqb (suc n) 0 (λ z. omega arith)) h
+
+module _ (order bits : ℕ) (K L : List ℕ) where
+  pub answer-refused : (keyNumber order bits (length K) (length L) ≡ 0 → ⊥)
+      → refusedKeys (keyNumber order bits (length K) (length L)) ≡ keyAnswer order bits K L
+  unfolding keyAnswer
+  answer-refused h = rw (ne-eqb (keyNumber order bits (length K) (length L)) 0 h)
+
+  pub answer-done : {d p : ℕ} {k l : List ℕ} → keyNumber order bits (length K) (length L) ≡ 0 → d ≡ resolvedOrder order
+      → p ≡ resolvedTag bits → k ≡ K → l ≡ L → doneKeys d p k l ≡ keyAnswer order bits K L
+  unfolding keyAnswer
+  answer-done h ed ep ek el = rw (eq-eqb (keyNumber order bits (length K) (length L)) 0 h, ed, ep, ek, el)

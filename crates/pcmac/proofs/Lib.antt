@@ -1,0 +1,4 @@
+pub mod Figures
+pub mod Keysch
+pub mod Taggen
+pub mod Tagver

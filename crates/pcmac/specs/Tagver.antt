@@ -1,0 +1,26 @@
+-- The check of a tag: NEC's specification, section 2.6, Algorithm 2.3.
+-- Assumes nothing.
+use mathlib.Core.Bool.{Bool, true, false}
+use mathlib.Core.List.{List, [], _∷_}
+use Prim.Native.Nat.{ℕ}
+use lib.Dec.{eqb}
+use lib.ListN.{take}
+use Rattle.laws.specs.Agree.{both}
+use Rattle.laws.specs.Pick.{pick}
+use Rattle.block.specs.Block.{Block}
+use Rattle.pcmac.specs.Taggen.{TAGGEN}
+
+-- two lists of bits are the same
+unfoldable pub same : List ℕ → List ℕ → Bool
+same [] [] = true
+same [] (y ∷ b) = false
+same (x ∷ a) [] = false
+same (x ∷ a) (y ∷ b) = both (eqb x y) (same a b)
+
+-- the rule of acceptance: the first p of the received bits are those of the tag, and no others are looked at
+unfoldable pub accepted : ℕ → List ℕ → List ℕ → Bool
+accepted p received tag = same (take p received) tag
+
+-- Algorithm 2.3: TAGVER(d, p, K, L, M, T), 1 where T is accepted for T' = TAGGEN(d, p, K, L, M), otherwise 0
+unfoldable pub TAGVER : ℕ → ℕ → Block → Block → List ℕ → List ℕ → ℕ
+TAGVER d p K L M T = pick (accepted p T (TAGGEN d p K L M)) 1 0
