@@ -1,11 +1,14 @@
 // Chains of blocks, for counting instructions: the schedule is made once, each block goes through
 // one public call. docs/BENCH.md has the commands.
 //
-// Standard input is a letter and a digit: E or G, and how many times 4,096 blocks; or A, a digit and
-// another: how many times 4,096 blocks are absorbed where they lie, and the order. The last block of
-// the chain is written, 16 bytes.
+// Standard input is a letter and a digit: E or G, and how many times 4,096 blocks. Or a letter and
+// two digits, of which the second is the order: A, how many times 4,096 blocks are absorbed where
+// they lie; S, how many streams of 1 MiB, in one part, are added to and closed; T, how many messages
+// of 100 bytes are tagged in one call. The last block of the chain or the last tag is written, 16
+// bytes.
 ghost use Prim.Native.Nat.{_<_};
 use chain::Chain;
+use keys::KeySet;
 use libc::STDOUT_FILENO;
 
 struct Keys {
@@ -63,8 +66,7 @@ fn times(digit: u8) -> usize
 fn absorbed(order: usize, times: usize) -> [u8; 16]
     requires { ⌜ times < 10 ⌝ }
 {
-    let made = keys::key_call(order, 128, &[7u8; 16], &[9u8; 16]);
-    let set = made.keys;
+    let set = set_for(order);
     let round = set.round;
     let subkeys = set.subkeys;
     let part = [5u8; 65536];
@@ -82,12 +84,60 @@ fn absorbed(order: usize, times: usize) -> [u8; 16]
     c.value
 }
 
+// The key set of an order.
+fn set_for(order: usize) -> KeySet {
+    let made = keys::key_call(order, 128, &[7u8; 16], &[9u8; 16]);
+    made.keys
+}
+
+// A part of 1 MiB.
+fn mebibyte() -> [u8; 1048576] {
+    [5u8; 1048576]
+}
+
+// The tag of a stream of 1 MiB, made so many times.
+fn streamed(order: usize, times: usize) -> [u8; 16] {
+    let set = set_for(order);
+    let part = mebibyte();
+    let mut tag = [0u8; 16];
+    let mut n: usize = 0;
+    while n < times {
+        let added = stream::add(set, stream::start(), &part);
+        stream::close(set, added.stream, &mut tag);
+        n += 1;
+    }
+    tag
+}
+
+// The tag of a message of 100 bytes, made so many times.
+fn tagged(order: usize, times: usize) -> [u8; 16] {
+    let set = set_for(order);
+    let message = [5u8; 100];
+    let mut tag = [0u8; 16];
+    let mut n: usize = 0;
+    while n < times {
+        message::tag(set, &message, &mut tag);
+        n += 1;
+    }
+    tag
+}
+
 fn main() {
     let mut asked = [0u8; 3];
     io::read_full(0, &mut asked);
     if asked[0] == b'A' {
         let value = absorbed(times(asked[2]), times(asked[1]));
         io::write_all(STDOUT_FILENO, &value);
+        return;
+    }
+    if asked[0] == b'S' {
+        let tag = streamed(times(asked[2]), times(asked[1]));
+        io::write_all(STDOUT_FILENO, &tag);
+        return;
+    }
+    if asked[0] == b'T' {
+        let tag = tagged(times(asked[2]), times(asked[1]));
+        io::write_all(STDOUT_FILENO, &tag);
         return;
     }
     let w = aes::expand_key([7u8; 16]);

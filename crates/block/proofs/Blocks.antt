@@ -2,15 +2,14 @@
 -- Assumes nothing.
 use mathlib.Core.Path.{_≡_, refl, _∙_}
 use mathlib.Core.List.{List, _++_}
-use Prim.Native.Nat.{ℕ, zero, suc, _+_, _-_, _*_, _≤_, _<_}
+use Prim.Native.Nat.{ℕ, zero, suc, _+_, _-_, _*_, _≤_}
 use native.Mathlib.Omega.{arith}
 use lib.ListN.{length, take, drop, length-drop}
 use lib.Seq.{length-take-le, take-all, drop-drop, take-append-le, drop-append-le, take-add}
-use borrow.Author.Tests.{le-leb, lt-leb}
 use Rattle.laws.specs.Agree.{from, table}
 use Rattle.laws.specs.Joined.{joined}
 use Rattle.laws.specs.Up.{up}
-use Rattle.block.specs.Block.{zeros, blocks, blockOf, sixteenAt}
+use Rattle.block.specs.Block.{blocks, blockOf}
 
 -- a block that stands in x is the same with y behind it
 pub block-front : (x y : List ℕ) (i : ℕ) → 1 ≤ i → 16 * i ≤ length x → blockOf (x ++ y) i ≡ blockOf x i
@@ -59,17 +58,3 @@ joined-from x i (suc n) =
 pub partition : (x : List ℕ) → joined (table (λ j. blockOf x (j + 1)) (blocks (length x))) ≡ x
 unfolding blocks
 partition x = joined-from x 0 (blocks (length x)) ∙ take-all (16 * blocks (length x)) x (omega arith)
-
--- sixteen bytes that stand there
-pub sixteen-whole : (x : List ℕ) (at : ℕ) → at + 16 ≤ length x → sixteenAt x at ≡ take 16 (drop at x)
-unfolding sixteenAt
-sixteen-whole x at h = rw (le-leb (at + 16) (length x) h)
-
--- and that do not all
-pub sixteen-none : (x : List ℕ) (at : ℕ) → length x < at + 16 → sixteenAt x at ≡ zeros
-unfolding sixteenAt
-sixteen-none x at h = rw (lt-leb (at + 16) (length x) h)
-
--- a list of sixteen bytes, read from its start, is the list
-pub sixteen-all : (x : List ℕ) → length x ≡ 16 → sixteenAt x 0 ≡ x
-sixteen-all x h = sixteen-whole x 0 (omega arith) ∙ take-all 16 x (omega arith)

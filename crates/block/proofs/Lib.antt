@@ -2,4 +2,5 @@ pub mod Bits
 pub mod Block
 pub mod Blocks
 pub mod Joined
-pub mod Pad
+pub mod Padding
+pub mod Sixteen

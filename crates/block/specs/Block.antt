@@ -1,9 +1,9 @@
 -- Blocks of 128 bits, and what NEC's specification of PC-MAC-AES does to them: sections 2.1, 2.2 and 2.5.
 -- Assumes nothing.
 use mathlib.Core.List.{List, [], _∷_, _++_}
-use Prim.Native.Nat.{ℕ, _+_, _-_, _*_}
+use Prim.Native.Nat.{ℕ, _-_, _*_}
 use lib.Bits.{bitXor}
-use lib.Dec.{eqb, leb}
+use lib.Dec.{eqb}
 use lib.ListN.{length, getD, take, drop, replicate}
 use Rattle.laws.specs.Agree.{table}
 use Rattle.laws.specs.Pick.{pick}
@@ -63,6 +63,6 @@ blocks n = up n 16
 unfoldable pub blockOf : List ℕ → ℕ → List ℕ
 blockOf message i = take 16 (drop (16 * (i - 1)) message)
 
--- sixteen bytes of a list, from one on; zeros where they do not all stand there
-unfoldable pub sixteenAt : List ℕ → ℕ → Block
-sixteenAt bytes at = pick (leb (at + 16) (length bytes)) (take 16 (drop at bytes)) zeros
+-- the first sixteen bytes of a list, and zeros where it has fewer
+unfoldable pub sixteen : List ℕ → Block
+sixteen x = table (λ j. getD x j 0) 16

@@ -1,10 +1,11 @@
 -- What the public functions of this crate promise, and that each promise leaves one answer.
 -- Assumes nothing.
 use mathlib.Core.Path.{_≡_}
-use mathlib.Core.List.{List}
+use mathlib.Core.List.{List, _++_}
 use Prim.Native.Nat.{ℕ}
+use lib.ListN.{take, drop}
 use Rattle.laws.proofs.Once.{once}
-use Rattle.block.specs.Block.{Block, _⊕_, numbered, mul2, sixteenAt}
+use Rattle.block.specs.Block.{Block, _⊕_, numbered, mul2, padded, sixteen}
 
 -- xor hands back the exclusive or of two blocks
 abbrev pub XorPromise : Block → Block → Block → Type 0
@@ -30,10 +31,26 @@ DoublePromise x r = r ≡ mul2 x
 pub double-once : (x r r′ : Block) → DoublePromise x r → DoublePromise x r′ → r ≡ r′
 double-once x r r′ p q = once p q
 
--- read hands back sixteen bytes of the slice, and zeros where they do not all stand there
+-- read hands back sixteen bytes of the slice, from one on, and zeros where it has ended
 abbrev pub ReadPromise : List ℕ → ℕ → Block → Type 0
-ReadPromise bytes at r = r ≡ sixteenAt bytes at
+ReadPromise bytes at r = r ≡ sixteen (drop at bytes)
 
 -- any two answers that read may give are equal
 pub read-once : (bytes : List ℕ) (at : ℕ) (r r′ : Block) → ReadPromise bytes at r → ReadPromise bytes at r′ → r ≡ r′
 read-once bytes at r r′ p q = once p q
+
+-- join hands back the first n bytes of a block with a part behind them, as far as sixteen bytes go, and then zeros
+abbrev pub JoinPromise : Block → ℕ → List ℕ → Block → Type 0
+JoinPromise x n part r = r ≡ sixteen (take n x ++ part)
+
+-- any two answers that join may give are equal
+pub join-once : (x : Block) (n : ℕ) (part : List ℕ) (r r′ : Block) → JoinPromise x n part r → JoinPromise x n part r′ → r ≡ r′
+join-once x n part r r′ p q = once p q
+
+-- pad hands back pad of the first n bytes of a block, of all sixteen where n is more
+abbrev pub PadPromise : Block → ℕ → Block → Type 0
+PadPromise x n r = r ≡ padded (take n x)
+
+-- any two answers that pad may give are equal
+pub pad-once : (x : Block) (n : ℕ) (r r′ : Block) → PadPromise x n r → PadPromise x n r′ → r ≡ r′
+pad-once x n r r′ p q = once p q

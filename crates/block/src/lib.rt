@@ -1,9 +1,12 @@
 // Blocks of 16 bytes, as NEC's specification of PC-MAC-AES uses them: exclusive or, a number as a
-// block, doubling in GF(2^128); and a block out of a slice. Blocks go by value.
+// block, doubling in GF(2^128), padding; and a block out of a slice. Blocks go by value.
 ghost use mathlib.Core.Path.{_≡_};
-ghost use Prim.Native.Nat.{_+_, _*_, _/_, _%_};
+ghost use mathlib.Core.List.{_++_};
+ghost use Prim.Native.Nat.{_+_, _*_, _/_, _%_, _<_};
+ghost use lib.ListN.{getD, take};
 ghost use Rattle.block.specs.Block.{shifted};
-ghost use Rattle.block.specs.Promise.{XorPromise, NumberedPromise, DoublePromise, ReadPromise};
+ghost use Rattle.block.specs.Promise.{XorPromise, NumberedPromise, DoublePromise};
+ghost use Rattle.block.specs.Promise.{JoinPromise, PadPromise, ReadPromise};
 
 // What doubling adds where a bit is shifted out.
 const REDUCTION: u8 = 0x87;
@@ -59,16 +62,51 @@ pub fn double(x: [u8; 16]) -> [u8; 16]
     xor(shift(x), numbered(REDUCTION))
 }
 
-// Sixteen bytes of a slice, from `at` on; zeros where they do not all stand there.
+// The byte at place i of the first n bytes of a block with a part behind them; 0 where both have ended.
+fn byte_at(x: [u8; 16], n: usize, part: &[u8], i: usize) -> u8
+    requires { ⌜ i < 16 ⌝ }
+    ensures { λ r. ⌜ r ≡ getD (take n x ++ now (part .entry)) i 0 ⌝ }
+{
+    if i < n {
+        return x[i];
+    }
+    let j = i - n;
+    if j < part.len() { part[j] } else { 0 }
+}
+
+// The first n bytes of a block with a part behind them, as far as sixteen bytes go, and then zeros.
+pub fn join(x: [u8; 16], n: usize, part: &[u8]) -> [u8; 16]
+    ensures { λ r. ⌜ JoinPromise x n (now (part .entry)) r ⌝ }
+{
+    let mut r = [0u8; 16];
+    let mut i: usize = 0;
+    while i < 16 {
+        r[i] = byte_at(x, n, part, i);
+        i += 1;
+    }
+    r
+}
+
+// pad of the first n bytes of a block: a full block stays, a shorter one gets 80 and then zeros.
+pub fn pad(x: [u8; 16], n: usize) -> [u8; 16]
+    ensures { λ r. ⌜ PadPromise x n r ⌝ }
+{
+    if n >= 16 {
+        return x;
+    }
+    join(x, n, &[0x80u8])
+}
+
+// Sixteen bytes of a slice, from `at` on, and zeros where it has ended.
 pub fn read(bytes: &[u8], at: usize) -> [u8; 16]
     ensures { λ r. ⌜ ReadPromise (now (bytes .entry)) at r ⌝ }
 {
     let n = bytes.len();
-    if n < 16 {
+    if at > n {
         return [0; 16];
     }
-    if at > n - 16 {
-        return [0; 16];
+    if n - at < 16 {
+        return join([0u8; 16], 0, &bytes[at..]);
     }
     let mut r = [0u8; 16];
     let mut i: usize = 0;

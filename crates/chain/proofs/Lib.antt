@@ -1,4 +1,5 @@
 pub mod Walk
 pub mod Cut
+pub mod Parts
 pub mod View
 pub mod Count

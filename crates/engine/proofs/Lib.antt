@@ -1,3 +1,3 @@
-pub mod Absorbed
+pub mod Room
 pub mod Together
 pub mod Walking

@@ -13,22 +13,21 @@ use Rattle.chain.specs.Walk.{Step, stepped, place, walk}
 use Rattle.chain.proofs.Walk.{walk-more, place-after}
 use Rattle.chain.proofs.Count.{walk-raised}
 use Rattle.engine.specs.Engine.{countLimit}
+use Rattle.engine.proofs.Room.{Room}
 
 -- the first i whole blocks of the part are taken, and w is the place of the next
 pub record Walking (d : ℕ) (f : Step) (done : ℕ) (c : Chain) (part : List ℕ) (r : Chain) (w i : ℕ) : Type 0 where
   pub is : r ≡ walk d f (after done part) (done + 1) i c
   pub at : w ≡ (done + i) % (d + 1)
   pub most : i ≤ length part / 16
-  pub wholes : c .whole ≤ countLimit
-  pub fours : c .four ≤ countLimit
+  pub room : Room c
 
 module _ (d : ℕ) (f : Step) where
-  pub walking-none : (done : ℕ) (c : Chain) (part : List ℕ) → c .whole ≤ countLimit → c .four ≤ countLimit
-      → Walking d f done c part c (done % (d + 1)) 0
+  pub walking-none : (done : ℕ) (c : Chain) (part : List ℕ) → Room c → Walking d f done c part c (done % (d + 1)) 0
   unfolding walk
-  walking-none done c part a b =
+  walking-none done c part h =
       let e : done + 0 ≡ done = omega arith in
-      record { is = refl; at = rw e; most = omega arith; wholes = a; fours = b }
+      record { is = refl; at = rw e; most = omega arith; room = h }
 
 -- the place is one of the cycle's
 pub walking-place : {d done w i : ℕ} {f : Step} {c r : Chain} {part : List ℕ} → Walking d f done c part r w i → w ≤ d
@@ -39,7 +38,7 @@ pub walking-room : {d done w i : ℕ} {f : Step} {c r : Chain} {part : List ℕ}
     → (r .whole ≤ countLimit + i) × (r .four ≤ countLimit + i)
 walking-room {d} {done} {w} {i} {f} {c} {r} {part} s =
     let g = walk-raised d f (after done part) (done + 1) i c in
-    rw (s .is) (omega (arith, s .wholes, g .whole-most), omega (arith, s .fours, g .four-most))
+    rw (s .is) (omega (arith, s .room .wholes, g .whole-most), omega (arith, s .room .fours, g .four-most))
 
 -- block done + 1 + i of the message is the part's from byte 16 i on
 block-number : (done i : ℕ) (part : List ℕ) → after done part (done + 1 + i) ≡ take 16 (drop (16 * i) part)
@@ -59,8 +58,7 @@ walking-more {d} {done} {w} {w′} {i} {f} {c} {r} {r′} {part} {b} s h eb er e
           (sym (walk-more d f (after done part) (done + 1) i c ∙ rw (p, block-number done i part)));
       at = ew ∙ rw (s .at, mod-add-mod (done + i) (d + 1) 1, n);
       most = omega arith;
-      wholes = s .wholes;
-      fours = s .fours;
+      room = s .room;
     }
 
 pub walking-all : {d done w i : ℕ} {f : Step} {c r : Chain} {part : List ℕ} → Walking d f done c part r w i

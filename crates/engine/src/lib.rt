@@ -3,13 +3,15 @@
 // table: E and G are called here, and E by the key call for its own steps.
 //
 //     let c = engine::absorb(2, &round, &subkeys, 0, begun, &part);   // the whole blocks of a part
+//     let made = engine::seal(&round, full, short, c, last, n);       // and the last, of n bytes
 ghost use mathlib.Core.Path.{_≡_};
 ghost use Prim.Native.Nat.{_+_, _%_, _≤_, _<_};
+ghost use lib.ListN.{take};
 ghost use Rattle.pcmac.specs.Functions.{G};
 ghost use Rattle.chain.specs.Walk.{stepped};
 ghost use Rattle.keys.specs.Arrangement.{uPart};
-ghost use Rattle.engine.specs.Engine.{chainStep};
-ghost use Rattle.engine.specs.Promise.{StepPromise, AbsorbPromise};
+ghost use Rattle.engine.specs.Engine.{chainStep, roomy, closing};
+ghost use Rattle.engine.specs.Promise.{StepPromise, AbsorbPromise, SealPromise};
 use chain::Chain;
 
 // Half of what a count can hold. A part has fewer blocks than the other half, so a count up to here
@@ -81,6 +83,16 @@ fn place_after(d: usize, w: usize) -> usize
     if w < d { w + 1 } else { 0 }
 }
 
+// Whether the counts of a chain have room for the blocks of any part.
+fn has_room(c: Chain) -> bool
+    ensures { λ r. ⌜ r ≡ roomy c ⌝ }
+{
+    if c.whole > COUNT_LIMIT {
+        return false;
+    }
+    c.four <= COUNT_LIMIT
+}
+
 // The chain after the whole blocks of a part, taken where they lie, which follow the first `done`
 // blocks of the message; a chain whose counts leave no room is handed back as it is.
 pub fn absorb<'a>(
@@ -93,12 +105,7 @@ pub fn absorb<'a>(
 ) -> Chain
     ensures { λ r. ⌜ AbsorbPromise order (now (round .entry)) (now (subkeys .entry)) done c (now (part .entry)) r ⌝ }
 {
-    let whole = c.whole;
-    if whole > COUNT_LIMIT {
-        return c;
-    }
-    let four = c.four;
-    if four > COUNT_LIMIT {
+    if !has_room(c) {
         return c;
     }
     let d = order as usize;
@@ -114,4 +121,40 @@ pub fn absorb<'a>(
         i += 1;
     }
     r
+}
+
+// What the closing step encrypts, of a last block of n bytes.
+fn closing(full: [u8; 16], short: [u8; 16], s: [u8; 16], last: [u8; 16], n: usize) -> [u8; 16]
+    ensures { λ r. ⌜ r ≡ closing full short s (take n last) ⌝ }
+{
+    let h = block::xor(s, block::pad(last, n));
+    if n >= 16 {
+        return block::xor(full, h);
+    }
+    block::xor(short, h)
+}
+
+// The chain after the closing step over the first n bytes of the last block: its value is what the
+// tag is cut from. A chain whose counts leave no room is handed back as it is.
+pub fn seal(
+    round: &[u8; 176],
+    full: [u8; 16],
+    short: [u8; 16],
+    c: Chain,
+    last: [u8; 16],
+    n: usize,
+) -> Chain
+    ensures { λ r. ⌜ SealPromise (now (round .entry)) full short c last n r ⌝ }
+{
+    if !has_room(c) {
+        return c;
+    }
+    let s = c.value;
+    let whole = c.whole;
+    let value = aes::encrypt_block(round, closing(full, short, s, last, n));
+    Chain {
+        value,
+        whole: whole + 1,
+        four: c.four,
+    }
 }

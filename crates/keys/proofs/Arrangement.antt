@@ -1,23 +1,13 @@
 -- The accessors by cases: within their places, and outside them.
 -- Assumes nothing.
 use mathlib.Core.Path.{_≡_}
-use mathlib.Core.Bool.{true, false}
+use mathlib.Core.Bool.{false}
 use mathlib.Core.List.{List}
-use Prim.Native.Nat.{ℕ, _+_, _-_, _*_, _≤_, _<_}
-use borrow.Author.Tests.{le-leb, lt-leb}
+use Prim.Native.Nat.{ℕ, _+_, _-_, _*_, _≤_}
+use Rattle.laws.specs.UpTo.{upTo}
+use Rattle.laws.proofs.UpTo.{up-to}
 use Rattle.block.specs.Block.{zeros}
-use Rattle.keys.specs.Arrangement.{placeAt, upTo, uPart, xKey}
-
--- from 1 to most
-up-to : (most n : ℕ) → 1 ≤ n → n ≤ most → upTo most n ≡ true
-up-to most n a b = rw (le-leb 1 n a, le-leb n most b)
-
--- none of these
-pub not-none : (most n : ℕ) → n < 1 → upTo most n ≡ false
-not-none most n h = rw (lt-leb 1 n h)
-
-pub not-more : (most n : ℕ) → 1 ≤ n → most < n → upTo most n ≡ false
-not-more most n a b = rw (le-leb 1 n a, lt-leb n most b)
+use Rattle.keys.specs.Arrangement.{placeAt, uPart, xKey}
 
 module _ (subkeys : List ℕ) where
   pub u-within : (w j : ℕ) → 1 ≤ w → w ≤ 5 → 1 ≤ j → j ≤ 3 → uPart subkeys w j ≡ placeAt subkeys (3 * (w - 1) + (j - 1))

@@ -2,14 +2,14 @@
 -- to K_4^xor. The two accessors and the array that the key call hands back are said here, and Store.antt
 -- says how the code fills it; nothing else knows an offset.
 -- Assumes nothing.
-use mathlib.Core.Bool.{Bool}
 use mathlib.Core.List.{List}
 use Prim.Native.Nat.{ℕ, _+_, _-_, _*_, _/_, _%_}
-use lib.Dec.{leb, ltb}
+use lib.Dec.{ltb}
 use lib.ListN.{getD}
 use Rattle.laws.specs.Agree.{both, table}
 use Rattle.laws.specs.Joined.{joined}
 use Rattle.laws.specs.Pick.{pick}
+use Rattle.laws.specs.UpTo.{upTo}
 use Rattle.block.specs.Block.{Block, zeros}
 use Rattle.pcmac.specs.Limits.{highestOrder}
 use Rattle.pcmac.specs.Keysch.{Subkeys, U, X}
@@ -17,10 +17,6 @@ use Rattle.pcmac.specs.Keysch.{Subkeys, U, X}
 -- the sixteen bytes at place n, from 0
 abbrev pub placeAt : List ℕ → ℕ → Block
 placeAt subkeys n = table (λ j. getD subkeys (16 * n + j) 0) 16
-
--- n is from 1 to most
-abbrev pub upTo : ℕ → ℕ → Bool
-upTo most n = both (leb 1 n) (leb n most)
 
 -- the accessor of U_w^(j), for w from 1 to 5 and j from 1 to 3: what stands at its place, which is zeros in a key set of a lower order.
 -- There is no other such place, and it answers zeros

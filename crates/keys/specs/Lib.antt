@@ -3,4 +3,5 @@ pub mod Arrangement
 pub mod KeysIn
 pub mod Numbers
 pub mod Promise
+pub mod SetNumber
 pub mod Store

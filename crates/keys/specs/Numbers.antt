@@ -14,6 +14,22 @@ badOrder = 1
 abbrev pub badTagLength : ℕ
 badTagLength = 2
 
--- K or L is not 16 bytes
+-- K or L is not 16 bytes; a tag slice has not just the bytes of a tag
 abbrev pub badSize : ℕ
 badSize = 3
+
+-- the stream is not well formed
+abbrev pub badStream : ℕ
+badStream = 4
+
+-- the message is too long
+abbrev pub tooLong : ℕ
+tooLong = 5
+
+-- there are no bytes
+abbrev pub noBytes : ℕ
+noBytes = 6
+
+-- the tag differs
+abbrev pub tagDiffers : ℕ
+tagDiffers = 7

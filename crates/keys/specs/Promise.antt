@@ -6,8 +6,10 @@ use Prim.Native.Nat.{ℕ}
 use Rattle.laws.proofs.Once.{once}
 use Rattle.block.specs.Block.{Block}
 use Rattle.keys.specs.declared.KeyAnswer.{KeyAnswer}
+use Rattle.keys.specs.declared.KeySet.{KeySet}
 use Rattle.keys.specs.Arrangement.{uPart, xKey}
 use Rattle.keys.specs.Answer.{keyAnswer}
+use Rattle.keys.specs.SetNumber.{setNumber}
 
 -- u_part hands back what stands at the place of U_w^(j), and zeros where w is not 1 to 5 or j not 1 to 3
 abbrev pub UPartPromise : List ℕ → ℕ → ℕ → Block → Type 0
@@ -33,3 +35,11 @@ KeyCallPromise order bits K L r = r ≡ keyAnswer order bits K L
 pub key-call-once : (order bits : ℕ) (K L : List ℕ) (r r′ : KeyAnswer) → KeyCallPromise order bits K L r
     → KeyCallPromise order bits K L r′ → r ≡ r′
 key-call-once order bits K L r r′ p q = once p q
+
+-- set_fault hands back the number of the first fault of a key set that is handed to a later call
+abbrev pub SetFaultPromise : KeySet → ℕ → Type 0
+SetFaultPromise keys r = r ≡ setNumber keys
+
+-- any two answers that set_fault may give are equal
+pub set-fault-once : (keys : KeySet) (r r′ : ℕ) → SetFaultPromise keys r → SetFaultPromise keys r′ → r ≡ r′
+set-fault-once keys r r′ p q = once p q

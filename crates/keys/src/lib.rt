@@ -10,18 +10,34 @@ mod subkeys;
 
 ghost use mathlib.Core.Path.{_≡_};
 ghost use Prim.Native.Nat.{_≤_};
+ghost use Rattle.laws.specs.UpTo.{upTo};
 ghost use Rattle.pcmac.specs.Limits.{resolved};
 ghost use Rattle.keys.specs.Answer.{keyNumber, doneKeys, refusedKeys};
-ghost use Rattle.keys.specs.Promise.{UPartPromise, XKeyPromise, KeyCallPromise};
+ghost use Rattle.keys.specs.Promise.{UPartPromise, XKeyPromise, KeyCallPromise, SetFaultPromise};
 
-// Numbers that the key call may give.
-const DONE: u8 = 0;
+// The numbers that a call may give, for every crate above: nothing is refused;
+pub const DONE: u8 = 0;
 
-const BAD_ORDER: u8 = 1;
+// the order is above 5, or 0 in a key set;
+pub const BAD_ORDER: u8 = 1;
 
-const BAD_TAG_LENGTH: u8 = 2;
+// the tag length is above 128 bits, or 0 in a key set;
+pub const BAD_TAG_LENGTH: u8 = 2;
 
-const BAD_SIZE: u8 = 3;
+// K or L is not 16 bytes, or a tag slice has not just the bytes of a tag;
+pub const BAD_SIZE: u8 = 3;
+
+// the stream is not well formed;
+pub const BAD_STREAM: u8 = 4;
+
+// the message is too long;
+pub const TOO_LONG: u8 = 5;
+
+// there are no bytes;
+pub const NO_BYTES: u8 = 6;
+
+// the tag differs.
+pub const TAG_DIFFERS: u8 = 7;
 
 // What the order and the tag length are where 0 is given, and their highest.
 const DEFAULT_ORDER: u8 = 1;
@@ -152,4 +168,29 @@ pub fn key_call<'a>(order: usize, bits: usize, k: &'a [u8], l: &'a [u8]) -> KeyA
     let d = meant(DEFAULT_ORDER, order as u8);
     let p = meant(DEFAULT_TAG, bits as u8);
     done(d, p, block::read(k, 0), block::read(l, 0))
+}
+
+// Whether a number is 1 to `most`.
+fn is_within(most: usize, n: usize) -> bool
+    ensures { λ r. ⌜ r ≡ upTo most n ⌝ }
+{
+    if n == 0 {
+        return false;
+    }
+    n <= most
+}
+
+// The first fault of a key set that is handed to a later call: 1, its order; 2, its tag length. No
+// other byte of it is judged.
+pub fn set_fault(keys: KeySet) -> u8
+    ensures { λ r. ⌜ SetFaultPromise keys r ⌝ }
+{
+    if !is_within(HIGHEST_ORDER, keys.order as usize) {
+        return BAD_ORDER;
+    }
+    if is_within(LONGEST_TAG, keys.bits as usize) {
+        DONE
+    } else {
+        BAD_TAG_LENGTH
+    }
 }

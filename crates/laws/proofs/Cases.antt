@@ -1,11 +1,13 @@
--- Of two numbers the first is below the second, or it is not.
+-- Of two numbers the first is below the second, or it is not; a test by what was handed back of it.
 -- Assumes nothing.
-use mathlib.Core.Path.{_≡_, refl}
-use mathlib.Core.Bool.{Bool, true, false}
+use mathlib.Core.Path.{_≡_, refl, sym, _∙_}
+use mathlib.Core.Bool.{Bool, true, false, not}
 use mathlib.Core.Logic.{_⊎_, inl, inr}
 use Prim.Native.Nat.{ℕ, _≤_, _<_}
+use native.Mathlib.Omega.{arith}
 use lib.Dec.{ltb}
-use borrow.Author.Tests.{ltb-true, ltb-false}
+use borrow.Author.Tests.{ltb-true, ltb-false, not-true, not-false}
+use Rattle.laws.specs.Agree.{both}
 
 pub below-or-not : (a b : ℕ) → (a < b) ⊎ (b ≤ a)
 below-or-not a b = by (ltb a b) refl
@@ -13,3 +15,16 @@ below-or-not a b = by (ltb a b) refl
     by : (t : Bool) → ltb a b ≡ t → (a < b) ⊎ (b ≤ a)
     by true e = inl (ltb-true a b e)
     by false e = inr (ltb-false a b e)
+
+-- what was handed back of a test, and is not so, says that it fails
+pub test-fails : {r t : Bool} → r ≡ t → not r ≡ true → t ≡ false
+test-fails {r} e h = sym e ∙ not-true r h
+
+-- and otherwise that it holds
+pub test-holds : {r t : Bool} → r ≡ t → not r ≡ false → t ≡ true
+test-holds {r} e h = sym e ∙ not-false r h
+
+-- what two tests that both hold tell of each
+pub both-holds : (a b : Bool) → both a b ≡ true → (a ≡ true) × (b ≡ true)
+both-holds true b e = (refl, e)
+both-holds false b e = absurd (let z : _≡_ {A = ℕ} 0 1 = cc in omega arith)

@@ -3,7 +3,10 @@ pub mod Bytes
 pub mod Cases
 pub mod Copied
 pub mod Entered
+pub mod Fault
 pub mod Four
+pub mod Lent
 pub mod Once
 pub mod Up
+pub mod UpTo
 pub mod Xor

@@ -62,3 +62,15 @@ up-sum d i k =
 -- of a larger number, no less
 pub up-mono : (d k m : ℕ) → k ≤ m → up k (d + 1) ≤ up m (d + 1)
 up-mono d k m h = up-below d k (up m (d + 1)) (omega (arith, up-above d m))
+
+first-most : (r : ℕ) → first r ≤ 1
+first-most zero = omega arith
+first-most (suc r) = omega arith
+
+-- at most the number itself
+pub up-most : (d n : ℕ) → up n (d + 1) ≤ n
+up-most d zero = rw (up-none d) (omega arith)
+up-most d (suc n) =
+    let e : up (n + 1) (d + 1) ≡ up n (d + 1) + first (n % (d + 1)) = up-more d n in
+    let s : suc n ≡ n + 1 = omega arith in
+    rw s (omega (arith, up-most d n, first-most (n % (d + 1))))

@@ -10,7 +10,7 @@ use borrow.Author.Tests.{eq-eqb, ne-eqb}
 use Rattle.block.specs.Bits.{bits}
 use Rattle.block.specs.Block.{Block, zeros, _⊕_, cut, padded, blocks, blockOf}
 use Rattle.block.proofs.Block.{xor-none}
-use Rattle.block.proofs.Pad.{bits-length, padded-length}
+use Rattle.block.proofs.Padding.{bits-length, padded-length}
 use Rattle.chain.specs.declared.Chain.{Chain}
 use Rattle.chain.specs.Count.{wholeFor, fourFor}
 use Rattle.chain.specs.Walk.{begun, walk}
@@ -118,7 +118,8 @@ module _ (d : ℕ) (k k′ : Keys) (a : Alike d k k′) where
       let m = blocks (length M) in
       ap (λ (c : Chain). sealed k p m c (blockOf M m)) (chained-alike M) ∙ sealed-alike p m (chained k′ d M) (blockOf M m)
 
-hashed-sum : (m : ℕ) (v : Block) (last : List ℕ) → length last ≤ 16 → (m ≡ 1 → v ≡ zeros)
+-- the last block is added to the chain value, which is zeros where there is one block
+pub hashed-sum : (m : ℕ) (v : Block) (last : List ℕ) → length last ≤ 16 → (m ≡ 1 → v ≡ zeros)
     → hashed m v last ≡ v ⊕ padded last
 unfolding hashed
 hashed-sum zero v last h z = refl

@@ -1,4 +1,4 @@
-// Runs vectors of AES-128, of doubling, and of the key call and the chain of PC-MAC-AES: tests/vectors says where they come from.
+// Runs vectors of AES-128, of doubling, and of PC-MAC-AES: tests/vectors says where they come from.
 //
 // Standard input is lines of a letter and 32 hexadecimal digits, 34 bytes each:
 //     K key     the key of the blocks that follow
@@ -10,127 +10,21 @@
 //               number, steps, order and tag length, then the subkeys and both masks, a line each
 //     R n ..    absorbs n blocks under that key set: writes the chain value, and both counts
 //     W key     writes the 44 words of the key's schedule, a line each
-// A line that is none of these is answered by a question mark.
-ghost use Prim.Native.Nat.{_≤_, _<_};
+// Letters of the calls over a message stand at the head of calls.rt. A line that is none of these is
+// answered by a question mark.
+mod calls;
+mod text;
+
+ghost use Prim.Native.Nat.{_<_};
+use calls::Calls;
 use chain::Chain;
 use libc::STDIN_FILENO;
-use libc::STDOUT_FILENO;
-
-const LINE_FEED: u8 = 10;
-
-// A line that was read: its letter, '?' where it is not of the form, and its sixteen bytes.
-struct Line {
-    letter: u8,
-    bytes: [u8; 16],
-}
+use text::Line;
 
 // What is kept from line to line: whether there may be more, and what they have set.
 struct Turn {
     more: bool,
     state: State,
-}
-
-// The value of a hexadecimal digit, 16 where it is none.
-fn value(digit: u8) -> u8
-    ensures { λ r. ⌜ r < 17 ⌝ }
-{
-    if digit < b'0' {
-        return 16;
-    }
-    if digit <= b'9' {
-        return digit - b'0';
-    }
-    if digit < b'a' {
-        return 16;
-    }
-    if digit <= b'f' {
-        return digit - b'a' + 10;
-    }
-    16
-}
-
-// The digit of the low half of a byte.
-fn digit(x: u8) -> u8 {
-    let low = x % 16;
-    if low < 10 {
-        b'0' + low
-    } else {
-        b'a' - 10 + low
-    }
-}
-
-// The line with its letter, or with '?' where one of its digits is none.
-fn parsed(text: [u8; 34]) -> Line {
-    let mut bytes = [0u8; 16];
-    let mut i: usize = 0;
-    while i < 16 {
-        let high = value(text[2 * i + 1]);
-        let low = value(text[2 * i + 2]);
-        if high == 16 {
-            return Line {
-                letter: b'?',
-                bytes,
-            };
-        }
-        if low == 16 {
-            return Line {
-                letter: b'?',
-                bytes,
-            };
-        }
-        bytes[i] = high * 16 + low;
-        i += 1;
-    }
-    Line {
-        letter: text[0],
-        bytes,
-    }
-}
-
-// A block in hexadecimal, with a line feed.
-fn written(block: [u8; 16]) -> [u8; 33] {
-    let mut text = [LINE_FEED; 33];
-    let mut i: usize = 0;
-    while i < 16 {
-        text[2 * i] = digit(block[i] / 16);
-        text[2 * i + 1] = digit(block[i]);
-        i += 1;
-    }
-    text
-}
-
-// Word i of a schedule in hexadecimal, with a line feed.
-fn word(w: &[u8; 176], i: usize) -> [u8; 9]
-    requires { ⌜ i < 44 ⌝ }
-{
-    let o = 4 * i;
-    [
-        digit(w[o] / 16),
-        digit(w[o]),
-        digit(w[o + 1] / 16),
-        digit(w[o + 1]),
-        digit(w[o + 2] / 16),
-        digit(w[o + 2]),
-        digit(w[o + 3] / 16),
-        digit(w[o + 3]),
-        LINE_FEED,
-    ]
-}
-
-// The words of a schedule, a line each.
-fn write_words(w: &[u8; 176]) {
-    let mut i: usize = 0;
-    while i < 44 {
-        let text = word(w, i);
-        io::write_all(STDOUT_FILENO, &text);
-        i += 1;
-    }
-}
-
-// A block, on a line.
-fn write_block(block: [u8; 16]) {
-    let text = written(block);
-    io::write_all(STDOUT_FILENO, &text);
 }
 
 // Round key i of a schedule.
@@ -163,17 +57,15 @@ fn four(w: &[u8; 176], block: [u8; 16]) -> [u8; 16] {
     aes::four_rounds(round_key(w, 1), round_key(w, 2), round_key(w, 3), block)
 }
 
-// What the lines so far have set: the schedule of the last key, that key and L, and of the last key
-// call the order, the round keys, the subkeys and the chain, with the number of its blocks.
+// What the lines so far have set: the schedule of the last key, that key and L; the chain since the
+// last key call, with the number of its blocks; and what the calls over a message take.
 struct State {
     w: [u8; 176],
     key: [u8; 16],
     l: [u8; 16],
-    order: u8,
-    round: [u8; 176],
-    subkeys: [u8; 304],
     chain: Chain,
     done: usize,
+    calls: Calls,
 }
 
 // The chain before its first block.
@@ -189,7 +81,7 @@ fn begun() -> Chain {
 fn write_parts(subkeys: &[u8; 304]) {
     let mut i: usize = 0;
     while i < 15 {
-        write_block(keys::u_part(subkeys, i / 3 + 1, i % 3 + 1));
+        text::write_block(keys::u_part(subkeys, i / 3 + 1, i % 3 + 1));
         i += 1;
     }
 }
@@ -199,23 +91,8 @@ fn write_auxes(subkeys: &[u8; 304]) {
     let mut j: usize = 0;
     while j < 4 {
         j += 1;
-        write_block(keys::x_key(subkeys, j));
+        text::write_block(keys::x_key(subkeys, j));
     }
-}
-
-// The block with n in eight of its bytes, big endian.
-fn put_number(block: [u8; 16], at: usize, n: usize) -> [u8; 16]
-    requires { ⌜ at ≤ 8 ⌝ }
-{
-    let mut r = block;
-    let mut left = n;
-    let mut i: usize = 8;
-    while i > 0 {
-        i -= 1;
-        r[at + i] = (left % 256) as u8;
-        left /= 256;
-    }
-    r
 }
 
 // The key call, and its whole answer.
@@ -229,51 +106,36 @@ fn call_keys(s: State, order: u8, bits: u8) -> State {
     head[1] = (made.steps % 256) as u8;
     head[2] = set.order;
     head[3] = set.bits;
-    write_block(head);
+    text::write_block(head);
     let subkeys = set.subkeys;
     write_parts(&subkeys);
     write_auxes(&subkeys);
     let full = set.full;
     let short = set.short;
-    write_block(full);
-    write_block(short);
+    text::write_block(full);
+    text::write_block(short);
     let w = s.w;
-    let round = set.round;
-    let order = set.order;
-    let chain = begun();
     State {
         w,
         key,
         l,
-        order,
-        round,
-        subkeys,
-        chain,
+        chain: begun(),
         done: 0,
+        calls: calls::under(set),
     }
-}
-
-// The part that runs are made of: byte i is 7i + 3.
-fn pattern() -> [u8; 4080] {
-    let mut part = [0u8; 4080];
-    let mut i: usize = 0;
-    while i < 4080 {
-        part[i] = ((7 * i + 3) % 256) as u8;
-        i += 1;
-    }
-    part
 }
 
 // The chain after the first n blocks of a part that has as many.
 fn absorbed(s: State, part: &[u8], n: u8) -> Chain {
-    let round = s.round;
-    let subkeys = s.subkeys;
+    let set = s.calls.set;
+    let round = set.round;
+    let subkeys = set.subkeys;
     let before = s.chain;
     let end = 16 * n as usize;
     if end > part.len() {
         return before;
     }
-    engine::absorb(s.order, &round, &subkeys, s.done, before, &part[..end])
+    engine::absorb(set.order, &round, &subkeys, s.done, before, &part[..end])
 }
 
 // So many blocks absorbed, with the chain value and the counts after them. After a million blocks no
@@ -283,15 +145,44 @@ fn run(s: State, n: u8) -> State {
     if done > 1000000 {
         return s;
     }
-    let part = pattern();
+    let part = text::pattern();
     let c = absorbed(s, &part, n);
     let value = c.value;
-    write_block(value);
-    write_block(put_number(put_number([0u8; 16], 8, c.four), 0, c.whole));
+    text::write_block(value);
+    text::write_counts(c.whole, c.four);
     let mut t = s;
     t.chain = c;
     t.done = done + n as usize;
     t
+}
+
+// Whether a letter asks about the cipher, or about doubling.
+fn is_cipher(letter: u8) -> bool {
+    match letter {
+        b'P' => true,
+        b'G' => true,
+        b'D' => true,
+        b'W' => true,
+        _ => false,
+    }
+}
+
+// Answers such a question.
+fn ask_cipher(w: &[u8; 176], letter: u8, bytes: [u8; 16]) {
+    if letter == b'P' {
+        text::write_block(aes::encrypt_block(w, bytes));
+        return;
+    }
+    if letter == b'G' {
+        text::write_block(four(w, bytes));
+        return;
+    }
+    if letter == b'D' {
+        text::write_block(block::double(bytes));
+        return;
+    }
+    let words = aes::expand_key(bytes);
+    text::write_words(&words);
 }
 
 // Answers one line.
@@ -315,25 +206,13 @@ fn answered(line: Line, s: State) -> State {
         return run(s, bytes[0]);
     }
     let w = s.w;
-    if line.letter == b'P' {
-        write_block(aes::encrypt_block(&w, bytes));
+    if is_cipher(line.letter) {
+        ask_cipher(&w, line.letter, bytes);
         return s;
     }
-    if line.letter == b'G' {
-        write_block(four(&w, bytes));
-        return s;
-    }
-    if line.letter == b'D' {
-        write_block(block::double(bytes));
-        return s;
-    }
-    if line.letter == b'W' {
-        let words = aes::expand_key(bytes);
-        write_words(&words);
-        return s;
-    }
-    io::write_all(STDOUT_FILENO, &[b'?', LINE_FEED]);
-    s
+    let c = calls::answered(s.calls, line);
+    t.calls = c;
+    t
 }
 
 // Reads one line and answers it.
@@ -348,7 +227,7 @@ fn take_turn(s: State) -> Turn {
     }
     Turn {
         more: true,
-        state: answered(parsed(text), s),
+        state: answered(text::parsed(text), s),
     }
 }
 
@@ -359,11 +238,9 @@ fn main() {
         w,
         key: [0u8; 16],
         l: [0u8; 16],
-        order: 0,
-        round: w,
-        subkeys: [0u8; 304],
         chain: begun(),
         done: 0,
+        calls: calls::unset(),
     };
     let mut turns = u64::MAX;
     while turns > 0 {

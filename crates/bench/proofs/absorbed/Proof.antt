@@ -11,14 +11,8 @@ Inv-loop order times set round subkeys part c₀ n₀ c n = (n ≤ times) × (ti
 abbrev μ-loop : tie.MeasureT-loop
 μ-loop order times set round subkeys part c₀ n₀ c n = times - n
 
-slice-aggregate-key-call : tie.Need-slice-aggregate-key-call Inv-loop μ-loop
-slice-aggregate-key-call c = search needs
-
-slice-aggregate-key-call-2 : tie.Need-slice-aggregate-key-call-2 Inv-loop μ-loop
-slice-aggregate-key-call-2 c = search needs
-
-key-call-requires : tie.Need-key-call-requires Inv-loop μ-loop
-key-call-requires c κs = search needs
+set-for-requires : tie.Need-set-for-requires Inv-loop μ-loop
+set-for-requires c κs = search needs
 
 loop-holds : tie.Need-loop-holds Inv-loop μ-loop
 loop-holds c = search needs
@@ -50,9 +44,7 @@ absorbed-spec =
     (tie.spec
     Inv-loop
     μ-loop
-    slice-aggregate-key-call
-    slice-aggregate-key-call-2
-    key-call-requires
+    set-for-requires
     loop-holds
     mul-absorb
     slice-aggregate-absorb

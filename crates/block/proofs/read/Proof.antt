@@ -1,11 +1,13 @@
--- `block::read` meets its contract. Where the bytes stand there, after i turns the first i are entered; 16 - i turns are left.
+-- `block::read` meets its contract. Where all sixteen bytes stand there, after i turns the first i are entered; 16 - i turns are left.
 -- Assumes nothing.
-use mathlib.Core.Path.{refl, sym, _∙_}
+use mathlib.Core.Path.{refl, ap, sym, _∙_}
+use Rattle.laws.proofs.Lent.{lent-rest}
+use Rattle.block.specs.Block.{sixteen}
 use Prim.Native.Nat.{_+_, _-_, _≤_}
 use lib.ListN.{length, getD}
 use Rattle.laws.proofs.Agree.{table-part}
 use Rattle.laws.proofs.Entered.{Entered, entered-none, entered-more, entered-all}
-use Rattle.block.proofs.Blocks.{sixteen-whole, sixteen-none}
+use Rattle.block.proofs.Sixteen.{sixteen-whole, sixteen-beyond}
 use borrow.Author.Needs.{needs}
 use Rattle.block.proofs.read.Statement.{statement}
 use Rattle.block.proofs.read.Tie as tie
@@ -17,10 +19,26 @@ abbrev μ-loop : tie.MeasureT-loop
 μ-loop bytes at n r₀ i₀ r i = 16 - i
 
 returns : tie.Need-returns Inv-loop μ-loop
-returns c = sym (sixteen-none _ _ (search needs))
+returns c =
+    let a = c .before .before .args in
+    sym (sixteen-beyond (a .bytes .now) (a .at) (search needs))
+
+sub-join : tie.Need-sub-join Inv-loop μ-loop
+sub-join c = search needs
+
+part-join-start : tie.Need-part-join-start Inv-loop μ-loop
+part-join-start c = search needs
+
+part-join-end : tie.Need-part-join-end Inv-loop μ-loop
+part-join-end c = search needs
+
+join-requires : tie.Need-join-requires Inv-loop μ-loop
+join-requires c κs = search needs
 
 returns-2 : tie.Need-returns-2 Inv-loop μ-loop
-returns-2 c = sym (sixteen-none _ _ (search needs))
+returns-2 c =
+    let a = c .before .before .before .before .before .args in
+    c .join .ensures ∙ ap sixteen (lent-rest (a .bytes .now) (a .at))
 
 loop-holds : tie.Need-loop-holds Inv-loop μ-loop
 loop-holds c = (search needs, entered-none _ _ _ (search needs))
@@ -57,6 +75,10 @@ read-spec =
     Inv-loop
     μ-loop
     returns
+    sub-join
+    part-join-start
+    part-join-end
+    join-requires
     returns-2
     loop-holds
     add-r

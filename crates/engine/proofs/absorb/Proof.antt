@@ -2,12 +2,13 @@
 -- turns are left.
 -- Assumes nothing.
 use mathlib.Core.Path.{_≡_, refl, sym, _∙_}
-use Prim.Native.Nat.{_-_, _/_, _<_}
+use Prim.Native.Nat.{_-_, _*_, _/_, _<_}
 use native.Mathlib.Omega.{arith}
 use lib.ListN.{length}
-use Rattle.block.proofs.Blocks.{sixteen-whole}
+use Rattle.block.proofs.Sixteen.{sixteen-whole}
 use Rattle.engine.specs.Engine.{chainStep, walked}
-use Rattle.engine.proofs.Absorbed.{absorbed-room, absorbed-wholes, absorbed-fours}
+use Rattle.laws.proofs.Cases.{test-fails, test-holds}
+use Rattle.engine.proofs.Room.{room-is, absorbed-room, absorbed-not}
 use Rattle.engine.proofs.Walking.{Walking, walking-none, walking-place, walking-room}
 use Rattle.engine.proofs.Walking.{walking-more, walking-all}
 use borrow.Author.Needs.{needs}
@@ -15,18 +16,18 @@ use Rattle.engine.proofs.absorb.Statement.{statement}
 use Rattle.engine.proofs.absorb.Tie as tie
 
 abbrev Inv-loop : tie.InvT-loop
-Inv-loop order round subkeys done part whole four d n r₀ w₀ i₀ r w i =
+Inv-loop order round subkeys done part d n r₀ w₀ i₀ r w i =
     (n ≡ length part / 16) × (d < 256) × (length part < 18446744073709551616)
     × Walking d (chainStep round subkeys) done r₀ part r w i
 
 abbrev μ-loop : tie.MeasureT-loop
-μ-loop order round subkeys done part whole four d n r₀ w₀ i₀ r w i = n - i
+μ-loop order round subkeys done part d n r₀ w₀ i₀ r w i = n - i
+
+has-room-requires : tie.Need-has-room-requires Inv-loop μ-loop
+has-room-requires c κs = search needs
 
 returns : tie.Need-returns Inv-loop μ-loop
-returns c = sym (absorbed-wholes _ _ _ _ _ _ (search needs))
-
-returns-2 : tie.Need-returns-2 Inv-loop μ-loop
-returns-2 c = sym (absorbed-fours _ _ _ _ _ _ (search needs) (search needs))
+returns c = sym (absorbed-not _ _ _ _ _ _ (test-fails (c .before .has-room .ensures) (c .if1 .taken)))
 
 add-w : tie.Need-add-w Inv-loop μ-loop
 add-w c = search needs
@@ -35,7 +36,9 @@ rem-w : tie.Need-rem-w Inv-loop μ-loop
 rem-w c = search needs
 
 loop-holds : tie.Need-loop-holds Inv-loop μ-loop
-loop-holds c = (refl, search needs, search needs, walking-none _ _ _ _ _ (search needs) (search needs))
+loop-holds c =
+    let h = room-is _ (test-holds (c .before .has-room .ensures) (c .if1 .left)) in
+    (refl, search needs, search needs, walking-none _ _ _ _ _ h)
 
 mul-read : tie.Need-mul-read Inv-loop μ-loop
 mul-read c = search needs
@@ -62,14 +65,17 @@ loop-less c = search needs
 loop-again : tie.Need-loop-again Inv-loop μ-loop
 loop-again c =
     let v = c .before .before .before .before .loop .inv in
-    let b = c .before .before .read .ensures ∙ sixteen-whole _ _ (search needs) in
+    let a = c .before .before .before .before .before .before .before .before .args in
+    let i = c .before .before .before .before .loop .i in
+    let b = c .before .before .read .ensures ∙ sixteen-whole (a .part .now) (16 * i) (search needs) in
     (v .0, v .1, v .2, walking-more (v .3) (search needs) b (c .before .take-step .ensures) (c .place-after .ensures))
 
-returns-3 : tie.Need-returns-3 Inv-loop μ-loop
+returns-2 : tie.Need-returns-2 Inv-loop μ-loop
 unfolding walked
-returns-3 c =
+returns-2 c =
+    let h = c .before .before in
     walking-all (c .before .loop .inv .3) (search needs)
-    ∙ sym (absorbed-room _ _ _ _ _ _ (search needs) (search needs))
+    ∙ sym (absorbed-room _ _ _ _ _ _ (test-holds (h .before .has-room .ensures) (h .if1 .left)))
 
 pub absorb-spec : {M : Type 1} → statement M
 absorb-spec =
@@ -77,8 +83,8 @@ absorb-spec =
     (tie.spec
     Inv-loop
     μ-loop
+    has-room-requires
     returns
-    returns-2
     add-w
     rem-w
     loop-holds
@@ -89,4 +95,4 @@ absorb-spec =
     add-i
     loop-less
     loop-again
-    returns-3)
+    returns-2)

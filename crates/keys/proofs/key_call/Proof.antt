@@ -3,7 +3,7 @@
 use mathlib.Core.Path.{_≡_, ap, _∙_}
 use native.Mathlib.Omega.{arith}
 use lib.ListN.{length}
-use Rattle.block.proofs.Blocks.{sixteen-all}
+use Rattle.block.proofs.Sixteen.{sixteen-all}
 use Rattle.keys.specs.Answer.{keyNumber, refusedKeys}
 use Rattle.keys.proofs.Number.{number-faultless, answer-refused, answer-done, resolved-some, resolved-most}
 use borrow.Author.Needs.{needs}

@@ -16,6 +16,9 @@ expand-key-requires c κs = search needs
 begun-requires : tie.Need-begun-requires Inv-loop μ-loop
 begun-requires c κs = search needs
 
+unset-requires : tie.Need-unset-requires Inv-loop μ-loop
+unset-requires c κs = search needs
+
 loop-holds : tie.Need-loop-holds Inv-loop μ-loop
 loop-holds c = search needs
 
@@ -45,6 +48,7 @@ main-spec =
     μ-loop
     expand-key-requires
     begun-requires
+    unset-requires
     loop-holds
     take-turn-requires
     returns

@@ -1,7 +1,8 @@
 -- `keys::subkeys::u_part` meets its contract. By the cases of w and of j.
 -- Assumes nothing.
 use mathlib.Core.Path.{sym, _∙_}
-use Rattle.keys.proofs.Arrangement.{not-none, not-more, u-within, u-none, u-no-part}
+use Rattle.laws.proofs.UpTo.{not-none, not-more}
+use Rattle.keys.proofs.Arrangement.{u-within, u-none, u-no-part}
 use borrow.Author.Needs.{needs}
 use Rattle.keys.proofs.subkeys.u_part.Statement.{statement}
 use Rattle.keys.proofs.subkeys.u_part.Tie as tie

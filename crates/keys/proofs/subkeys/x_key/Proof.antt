@@ -1,7 +1,8 @@
 -- `keys::subkeys::x_key` meets its contract. By the cases of j.
 -- Assumes nothing.
 use mathlib.Core.Path.{sym, _∙_}
-use Rattle.keys.proofs.Arrangement.{not-none, not-more, x-within, x-none}
+use Rattle.laws.proofs.UpTo.{not-none, not-more}
+use Rattle.keys.proofs.Arrangement.{x-within, x-none}
 use borrow.Author.Needs.{needs}
 use Rattle.keys.proofs.subkeys.x_key.Statement.{statement}
 use Rattle.keys.proofs.subkeys.x_key.Tie as tie

@@ -1,0 +1,7 @@
+pub mod Empty
+pub mod Faultless
+pub mod Formed
+pub mod Held
+pub mod Limit
+pub mod Total
+pub mod Zeros

@@ -1,0 +1,47 @@
+-- `message::verify` meets its contract. By the number of the first fault.
+-- Assumes nothing.
+use mathlib.Core.Path.{sym, _∙_}
+use Rattle.tag.proofs.Answered.{checking-refused, checking-checked}
+use Rattle.message.proofs.Number.{tags}
+use borrow.Author.Needs.{needs}
+use Rattle.message.proofs.verify.Statement.{statement}
+use Rattle.message.proofs.verify.Tie as tie
+
+fault-requires : tie.Need-fault-requires
+fault-requires c κs = search needs
+
+refused-requires : tie.Need-refused-requires
+refused-requires c κs = search needs
+
+returns : tie.Need-returns
+returns c = c .refused .ensures ∙ checking-refused _ _ _ _ (c .before .before .fault .ensures) (c .before .if1 .taken)
+
+sealed-requires : tie.Need-sealed-requires
+sealed-requires c κs = let t = tags _ _ _ (sym (c .before .fault .ensures) ∙ c .if1 .left) in (t .some, t .fits)
+
+read-requires : tie.Need-read-requires
+read-requires c κs = search needs
+
+compare-requires : tie.Need-compare-requires
+compare-requires c κs = search needs
+
+returns-2 : tie.Need-returns-2
+returns-2 c =
+    let at-fault = c .before .before .before in
+    let none = sym (at-fault .before .fault .ensures) ∙ at-fault .if1 .left in
+    let t = tags _ _ _ none in
+    c .compare .ensures
+    ∙ checking-checked _ _ _ _ none (t .set .tag .high) (t .size) (c .before .read .ensures)
+    (c .before .before .sealed .ensures .tag)
+
+pub verify-spec : {M : Type 1} → statement M
+verify-spec =
+    tie.close
+    (tie.spec
+    fault-requires
+    refused-requires
+    returns
+    sealed-requires
+    read-requires
+    compare-requires
+    returns-2)

@@ -1,0 +1,121 @@
+-- Which answer a call gives, by the number of its first fault; and that the engine's closing step gives the tag of Algorithm 2.2.
+-- Assumes nothing.
+use mathlib.Core.Path.{_≡_, refl, ap, sym, _∙_}
+use mathlib.Core.Bool.{Bool, true, false}
+use mathlib.Core.List.{List}
+use Prim.Native.Nat.{ℕ, zero, suc, _≤_}
+use native.Mathlib.Omega.{arith}
+use lib.Dec.{eqb}
+use lib.ListN.{length}
+use borrow.Author.Tests.{eq-eqb, ne-eqb, eqb-true}
+use Rattle.laws.specs.Pick.{pick}
+use Rattle.aes.proofs.Length.{cipher-length}
+use Rattle.block.specs.Bits.{bytes}
+use Rattle.block.specs.Block.{Block, zeros, cut, sixteen}
+use Rattle.chain.specs.declared.Chain.{Chain}
+use Rattle.pcmac.specs.Taggen.{Tagged, sealed}
+use Rattle.keys.specs.declared.KeySet.{KeySet}
+use Rattle.keys.specs.KeysIn.{keysIn}
+use Rattle.engine.specs.Engine.{closing, sealing, sealedBy}
+use Rattle.engine.proofs.Room.{Room, room-roomy, sealed-room}
+use Rattle.engine.proofs.Together.{engine-sealed}
+use Rattle.tag.specs.Tag.{tagBytes}
+use Rattle.tag.specs.Answer.{taggedBy, refusedTag, madeTag, checkedTag, makingAnswer, makingSlice, checkingAnswer}
+use Rattle.tag.specs.declared.TagAnswer.{TagAnswer}
+use Rattle.tag.specs.Promise.{WritePromise}
+use Rattle.tag.proofs.Laid.{laid-all}
+use Rattle.tag.proofs.Tagged.{tag-length, received-checked}
+
+module _ (n : ℕ) (t : Tagged) where
+  -- refused: the answer, and the slice as it is
+  pub making-refused : {r : ℕ} → r ≡ n → (r ≡ 0 → ⊥) → refusedTag r ≡ makingAnswer n t
+  unfolding makingAnswer
+  making-refused e h = rw (ne-eqb n 0 (λ z. h (e ∙ z))) (ap refusedTag e)
+
+  pub making-left : (l : List ℕ) {r : ℕ} → r ≡ n → (r ≡ 0 → ⊥) → l ≡ makingSlice n t l
+  unfolding makingSlice
+  making-left l e h = rw (ne-eqb n 0 (λ z. h (e ∙ z)))
+
+  pub checking-refused : (p : ℕ) (l : List ℕ) {r : ℕ} → r ≡ n → (r ≡ 0 → ⊥) → refusedTag r ≡ checkingAnswer n p l t
+  unfolding checkingAnswer
+  checking-refused p l e h = rw (ne-eqb n 0 (λ z. h (e ∙ z))) (ap refusedTag e)
+
+  -- no fault: made, or checked
+  pub making-is : n ≡ 0 → makingAnswer n t ≡ madeTag t
+  unfolding makingAnswer
+  making-is e = rw (eq-eqb n 0 e)
+
+  pub slice-is : (l : List ℕ) → n ≡ 0 → makingSlice n t l ≡ bytes (t .tag)
+  unfolding makingSlice
+  slice-is l e = rw (eq-eqb n 0 e)
+
+  pub checking-is : (p : ℕ) (l : List ℕ) → n ≡ 0 → checkingAnswer n p l t ≡ checkedTag p l t
+  unfolding checkingAnswer
+  checking-is p l e = rw (eq-eqb n 0 e)
+
+  -- made, from the chain after the closing step, into a slice that has just the bytes of the tag: the answer, and the slice
+  pub making-written : (p : ℕ) (c : Chain) (l : List ℕ) {r : TagAnswer} {after : List ℕ} → n ≡ 0 → p ≤ 128 → length (c .value) ≡ 16
+      → length l ≡ tagBytes p → taggedBy p c ≡ t → WritePromise c p l r after → (r ≡ makingAnswer n t) × (after ≡ makingSlice n t l)
+  unfolding taggedBy
+  making-written p c l e b v h q w = (
+    w .0 ∙ ap madeTag q ∙ sym (making-is e),
+    w .1 ∙ laid-all (bytes (cut p (c .value))) l (tag-length p (c .value) b v ∙ sym h) ∙ ap (λ (u : Tagged). bytes (u .tag)) q
+        ∙ sym (slice-is l e),
+  )
+
+  -- checked, from the received bytes as a block
+  pub checking-checked : (p : ℕ) (l : List ℕ) {x : Block} {u : Tagged} → n ≡ 0 → p ≤ 128 → length l ≡ tagBytes p → x ≡ sixteen l
+      → u ≡ t → checkedTag p x u ≡ checkingAnswer n p l t
+  checking-checked p l {x} {u} e b h f q =
+      ap (λ (y : Block). checkedTag p y u) f ∙ received-checked p l u b h ∙ ap (checkedTag p l) q ∙ sym (checking-is p l e)
+
+-- the number of a call that makes a tag is that of its first fault
+pub making-number : (n : ℕ) (t : Tagged) → makingAnswer n t .number ≡ n
+unfolding makingAnswer madeTag refusedTag
+making-number zero t = refl
+making-number (suc n) t = rw (ne-eqb (suc n) 0 (λ z. omega arith))
+
+-- and of one that checks a tag too, where there is a fault
+pub checking-number : (n p : ℕ) (l : List ℕ) (t : Tagged) → (n ≡ 0 → ⊥) → checkingAnswer n p l t .number ≡ n
+unfolding checkingAnswer refusedTag
+checking-number n p l t h = rw (ne-eqb n 0 h)
+
+-- a choice by a number's being 0 goes through what is chosen
+pick-same : {A : Type 0} (n : ℕ) (a a′ b : A) → (n ≡ 0 → a ≡ a′) → pick (eqb n 0) a b ≡ pick (eqb n 0) a′ b
+pick-same {A} n a a′ b q = by (eqb n 0) refl
+  where
+    by : (t : Bool) → eqb n 0 ≡ t → pick t a b ≡ pick t a′ b
+    by true z = q (eqb-true n 0 z)
+    by false z = refl
+
+-- calls with the same first fault, and the same tag where there is none, have the same outcome
+module _ {n n′ : ℕ} {t t′ : Tagged} (e : n ≡ n′) (q : n ≡ 0 → t ≡ t′) where
+  pub making-same : makingAnswer n t ≡ makingAnswer n′ t′
+  unfolding makingAnswer
+  making-same = rw (← e) (pick-same n (madeTag t) (madeTag t′) (refusedTag n) (λ z. ap madeTag (q z)))
+
+  pub slice-same : (l : List ℕ) → makingSlice n t l ≡ makingSlice n′ t′ l
+  unfolding makingSlice
+  slice-same l = rw (← e) (pick-same n (bytes (t .tag)) (bytes (t′ .tag)) l (λ z. ap (λ (u : Tagged). bytes (u .tag)) (q z)))
+
+  pub checking-same : (p : ℕ) (l : List ℕ) → checkingAnswer n p l t ≡ checkingAnswer n′ p l t′
+  unfolding checkingAnswer
+  checking-same p l =
+      rw (← e) (pick-same n (checkedTag p l t) (checkedTag p l t′) (refusedTag n) (λ z. ap (checkedTag p l) (q z)))
+
+module _ (set : KeySet) (c : Chain) (last : List ℕ) (room : Room c) where
+  sealed-is : sealedBy (set .round) (set .full) (set .short) c last ≡ sealing (set .round) (set .full) (set .short) c last
+  sealed-is = sealed-room (set .round) (set .full) (set .short) c last (room-roomy c room)
+
+  -- the closing step gives sixteen bytes
+  pub sealed-length : {r : Chain} → r ≡ sealedBy (set .round) (set .full) (set .short) c last → length (r .value) ≡ 16
+  unfolding sealing
+  sealed-length e =
+      ap (λ (x : Chain). length (x .value)) (e ∙ sealed-is)
+      ∙ cipher-length (set .round) (closing (set .full) (set .short) (c .value) last)
+
+  -- of which the tag is cut, with the counts, as Algorithm 2.2 does
+  pub sealed-tagged : (p m : ℕ) {r : Chain} → r ≡ sealedBy (set .round) (set .full) (set .short) c last → 1 ≤ length last
+      → length last ≤ 16 → (m ≡ 1 → c .value ≡ zeros) → taggedBy p r ≡ sealed (keysIn set) p m c last
+  unfolding taggedBy
+  sealed-tagged p m e a b z = ap (taggedBy p) (e ∙ sealed-is) ∙ engine-sealed set p m c last a b z

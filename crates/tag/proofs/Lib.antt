@@ -1,0 +1,5 @@
+pub mod Answered
+pub mod Front
+pub mod Laid
+pub mod Tagged
+pub mod Verdict
