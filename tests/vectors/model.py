@@ -398,23 +398,28 @@ def spoilt(order):
     print()
 
 
-print("# PC-MAC-AES, made by model.py. Of the key call and the chain: K and L; S, order and tag length; R, a run of so many blocks.")
-print("# Answers: number, steps, order and tag length; the fifteen parts of U_1 to U_5, X_1 to X_4, both masks. After each run the")
-print("# chain value, and the whole-cipher and four-round steps in eight bytes each. The questions about the calls over a message, and")
-print("# what they answer, stand at the head of crates/vectors/src/calls.rt.")
-print("[PCMAC]\n")
-for order, bits in [(0, 0), (1, 64), (2, 60), (3, 1), (4, 127), (5, 128), (6, 64), (255, 129), (5, 129), (2, 255)]:
-    question(order, bits, pattern(17, order), pattern(29, 128 + order), [1, 1, 2, 0, 7, 20, 3, 255])
-    question(order, bits, pattern(5, 3 + order), pattern(3, order), [13, 0, 1])
-for order in range(1, 6):
-    unit = Unit(order, 128, pattern(11, order), pattern(13, order))
-    lengths = [1, 15, 16, 17, 32, 33, 16 * (order + 1), 16 * (order + 1) + 1, 32 * (order + 1) + 5, 300]
-    messages(unit, 128, lengths, [0, 1, 15, 0, 1, 16, 31, 17, 100, 0, 272])
-    for bits in range(order, 128, 5):
-        messages(unit, bits, [bits % 40 + 1], [3, bits % 30 + 1])
+def main():
+    print("# PC-MAC-AES, made by model.py. Of the key call and the chain: K and L; S, order and tag length; R, a run of so many blocks.")
+    print("# Answers: number, steps, order and tag length; the fifteen parts of U_1 to U_5, X_1 to X_4, both masks. After each run the")
+    print("# chain value, and the whole-cipher and four-round steps in eight bytes each. The questions about the calls over a message, and")
+    print("# what they answer, stand at the head of crates/vectors/src/calls.rt.")
+    print("[PCMAC]\n")
+    for order, bits in [(0, 0), (1, 64), (2, 60), (3, 1), (4, 127), (5, 128), (6, 64), (255, 129), (5, 129), (2, 255)]:
+        question(order, bits, pattern(17, order), pattern(29, 128 + order), [1, 1, 2, 0, 7, 20, 3, 255])
+        question(order, bits, pattern(5, 3 + order), pattern(3, order), [13, 0, 1])
+    for order in range(1, 6):
+        unit = Unit(order, 128, pattern(11, order), pattern(13, order))
+        lengths = [1, 15, 16, 17, 32, 33, 16 * (order + 1), 16 * (order + 1) + 1, 32 * (order + 1) + 5, 300]
+        messages(unit, 128, lengths, [0, 1, 15, 0, 1, 16, 31, 17, 100, 0, 272])
+        for bits in range(order, 128, 5):
+            messages(unit, bits, [bits % 40 + 1], [3, bits % 30 + 1])
+        print()
+    for order in (2, 5):
+        spoilt(order)
+    unit = Unit(5, 128, pattern(1, 1), pattern(2, 2))
+    unit.longest()
     print()
-for order in (2, 5):
-    spoilt(order)
-unit = Unit(5, 128, pattern(1, 1), pattern(2, 2))
-unit.longest()
-print()
+
+
+if __name__ == "__main__":
+    main()

@@ -5,6 +5,7 @@ use Prim.Native.Nat.{ℕ, _-_, _*_}
 use lib.Bits.{bitXor}
 use lib.Dec.{eqb}
 use lib.ListN.{length, getD, take, drop, replicate}
+use Rattle.laws.specs.Filled.{filled}
 use Rattle.laws.specs.Agree.{table}
 use Rattle.laws.specs.Pick.{pick}
 use Rattle.laws.specs.Up.{up}
@@ -65,4 +66,4 @@ blockOf message i = take 16 (drop (16 * (i - 1)) message)
 
 -- the first sixteen bytes of a list, and zeros where it has fewer
 unfoldable pub sixteen : List ℕ → Block
-sixteen x = table (λ j. getD x j 0) 16
+sixteen x = filled 16 x

@@ -3,12 +3,12 @@
 use mathlib.Core.Path.{_≡_, refl, ap, ap₂, sym, _∙_}
 use mathlib.Core.Bool.{Bool, true, false}
 use mathlib.Core.Logic.{_⊎_, inl, inr, ⊎-elim, _↔_}
-use mathlib.Core.List.{List, [], _∷_}
+use mathlib.Core.List.{List, [], _∷_, _++_}
 use Prim.Native.Nat.{ℕ, _+_, _≤_}
 use native.Mathlib.Nat.{zero-add}
 use native.Mathlib.Omega.{arith}
 use lib.Dec.{eqb}
-use lib.ListN.{length, length-take}
+use lib.ListN.{length, take, drop, length-take}
 use borrow.Author.Tests.{ne-eqb, eqb-true, eqb-false}
 use Rattle.laws.specs.Joined.{joined}
 use Rattle.laws.proofs.Fault.{unless-fails, fault-found, fault-pass, unless-most, fault-most, none-most}
@@ -24,8 +24,7 @@ use Rattle.pcmac.specs.Taggen.{Tagged, keysOf, stepOf, chained, sealed, TAGGEN}
 use Rattle.pcmac.specs.Tagver.{accepted, TAGVER}
 use Rattle.keys.specs.declared.KeySet.{KeySet}
 use Rattle.keys.specs.declared.KeyAnswer.{KeyAnswer}
-use Rattle.keys.specs.Answer.{keyNumber, setOf, noSet, doneKeys, refusedKeys, keyAnswer}
-use Rattle.keys.proofs.Number.{answer-done, answer-refused}
+use Rattle.keys.specs.Answer.{setOf, keyAnswer}
 use Rattle.keys.specs.KeysIn.{keysIn}
 use Rattle.keys.specs.Promise.{KeyCallPromise}
 use Rattle.keys.specs.SetNumber.{setNumber}
@@ -50,8 +49,26 @@ use Rattle.stream.proofs.Number.{Adds, adds, adds-none}
 use Rattle.message.specs.Answer.{messageNumber, tagged, tagAnswer, tagSlice, verdict}
 use Rattle.message.specs.Promise.{TagPromise, VerifyPromise}
 use Rattle.message.proofs.Number.{tags-none}
-use Rattle.demands.specs.Demands.{Given, Message, AddedAll, Demand1, Demand2, Demand3}
+use Rattle.hex.specs.Line.{decodeAnswer, decodeSpace}
+use Rattle.keyline.specs.KeyLine.{keyLineAnswer}
+use Rattle.frame.specs.declared.FrameAnswer.{FrameAnswer}
+use Rattle.frame.specs.Frame.{frameAnswer}
+use Rattle.frame.specs.Promise.{JudgePromise}
+use Rattle.lines.specs.Reader.{closing}
+use Rattle.session.specs.declared.State.{State}
+use Rattle.session.specs.declared.Stepped.{Stepped}
+use Rattle.answer.specs.Line.{lineAnswer}
+use Rattle.answer.specs.Text.{textOf}
+use Rattle.session.specs.Session.{begun, readerOf, stateOf, over}
+use Rattle.session.specs.Promise.{takenOf, saidOver, stepAnswer, StepPromise}
+use Rattle.session.proofs.Cutting.{in-parts}
+use Rattle.demands.specs.Terms.{Given, Message, Frame, bodyEnd, AddedAll}
+use Rattle.demands.specs.One.{Answers, Refusals, Lines, Frames, Demand1}
+use Rattle.demands.specs.Two.{Demand2}
+use Rattle.demands.specs.Three.{Demand3}
 use Rattle.demands.proofs.Cutting.{added-none}
+use Rattle.demands.proofs.Frames as of-frames
+use Rattle.demands.proofs.Lines as of-lines
 use Rattle.demands.proofs.KeySet as made-set
 use Rattle.demands.proofs.Whole.{fine-start, added-by, refused-by, parts-added, parts-alike}
 
@@ -115,34 +132,39 @@ nothing-added k s a set form size e =
     let is = added-by k s [] a e none in
     (is .0, is .1 ∙ added-none (record { form = f; size = size }) (stepOf (keysIn k)))
 
--- a key call that is refused
-refused-keys : (order bits : ℕ) (K L : List ℕ) (made : KeyAnswer) → KeyCallPromise order bits K L made → (made .number ≡ 0 → ⊥)
-    → (made .steps ≡ 0) × (made .keys ≡ noSet)
-unfolding refusedKeys doneKeys
-refused-keys order bits K L made e h = by (eqb n 0) refl
-  where
-    n : ℕ
-    n = keyNumber order bits (length K) (length L)
-
-    by : (t : Bool) → eqb n 0 ≡ t → (made .steps ≡ 0) × (made .keys ≡ noSet)
-    by true q =
-        let is = e ∙ sym (answer-done order bits K L (eqb-true n 0 q) refl refl refl refl) in
-        absurd (h (ap (λ (x : KeyAnswer). x .number) is))
-    by false q =
-        let is = e ∙ sym (answer-refused order bits K L (eqb-false n 0 q)) in
-        (ap (λ (x : KeyAnswer). x .steps) is, ap (λ (x : KeyAnswer). x .keys) is)
-
 -- DEMAND 1
-pub demand-1 : Demand1
-demand-1 = record {
+stepped : (s : State) (part space : List ℕ) → (r : Stepped) × (after : List ℕ) × StepPromise s part space r after
+stepped s part space =
+    let n = takenOf s part (length space) in
+    let said = saidOver s part n in
+    (stepAnswer s part n, said ++ drop (length said) space, (refl, refl))
+
+answers : Answers
+answers = record {
   makes-keys = λ order bits K L. (keyAnswer order bits K L, refl);
   starts = (started, refl);
-  keys-refused = refused-keys;
   adds = λ k s p. (addAnswer k s p, refl);
   closes = λ k s l. (closeAnswer k s (length l), closeSlice k s l, (refl, refl));
   checks = λ k s l. (checkAnswer k s l, refl);
   tags = λ k M l. (tagAnswer k M (length l), tagSlice k M l, (refl, refl));
   verifies = λ k M l. (verdict k M l, refl);
+  decodes = λ line space. (decodeAnswer (length space) line, decodeSpace line space, (refl, refl));
+  reads = λ line. (keyLineAnswer line, refl);
+  judges = λ k f. (frameAnswer k f, refl);
+  opens = of-frames.opens;
+  opens-or = of-frames.opens-or;
+  opens-or-keeps = of-frames.opens-or;
+  judges-line = λ k line. (lineAnswer k line, refl);
+  texts = λ a. (textOf a, refl);
+  begins = (stateOf (record { session = begun; line = [] }), refl);
+  steps = λ s part space. stepped s part space;
+  finishes = λ s space. stepped s (closing (readerOf s)) space;
+  is-over = λ s. (over s, refl);
+}
+
+refusals : Refusals
+refusals = record {
+  keys-refused = made-set.refused-keys;
   add-refused = stream-left;
   close-refused = λ k s l after r e h. making-leaves (closeNumber k s (length l)) _ l after r (e .0) (e .1) h;
   tag-refused = λ k M l after r e h. making-leaves (messageNumber k (length M) (length l)) _ l after r (e .0) (e .1) h;
@@ -150,6 +172,34 @@ demand-1 = record {
   verify-refused = λ k M l r e a b. checking-leaves (messageNumber k (length M) (length l)) (k .bits) l _ r e a b;
   add-nothing = nothing-added;
 }
+
+lines : Lines
+lines = record {
+  decode-refused = of-lines.decode-refused;
+  key-line-refused = of-lines.key-line-refused;
+  decode-numbers = of-lines.decode-numbers;
+  key-line-numbers = of-lines.key-line-numbers;
+  long-line = of-lines.long-line;
+  other-key-line = of-lines.other-key-line;
+  other-line = of-lines.other-line;
+  key-line-digits = of-lines.key-line-digits;
+}
+
+frames : Frames
+frames = record {
+  judge-refused = of-frames.judge-refused;
+  judge-differs = of-frames.judge-differs;
+  judge-numbers = of-frames.judge-numbers;
+  order-first = of-frames.order-first;
+  tag-length-next = of-frames.tag-length-next;
+  length-next = of-frames.length-next;
+  open-refused = of-frames.open-refused;
+  open-or-refused = of-frames.open-or-refused;
+  open-or-keep-refused = of-frames.open-or-refused;
+}
+
+pub demand-1 : Demand1
+demand-1 = record { answers = answers; refusals = refusals; lines = lines; frames = frames }
 
 module _ {d p : ℕ} {K L M : List ℕ} (g : Given d p K L) (m : Message M) where
   -- a message and a tag slice of its size are no fault under the key set of K and L
@@ -163,10 +213,6 @@ module _ {d p : ℕ} {K L M : List ℕ} (g : Given d p K L) (m : Message M) wher
         some = m .some;
       })
 
-  tagged-tag : tagged (setOf d p K L) M .tag ≡ TAGGEN d p K L M
-  unfolding TAGGEN
-  tagged-tag = ap (λ (t : Tagged). t .tag) (made-set.set-tagged g M)
-
   tag-written : (slice after : List ℕ) (r : TagAnswer) → length slice ≡ tagBytes p → TagPromise (setOf d p K L) M slice r after
       → (r .number ≡ 0) × (after ≡ bytes (TAGGEN d p K L M))
   unfolding madeTag
@@ -175,7 +221,7 @@ module _ {d p : ℕ} {K L M : List ℕ} (g : Given d p K L) (m : Message M) wher
       let t = tagged (setOf d p K L) M in
       let n = messageNumber (setOf d p K L) (length M) (length slice) in (
         ap (λ (x : TagAnswer). x .number) (e .0 ∙ making-is n t none),
-        e .1 ∙ slice-is n t slice none ∙ ap bytes tagged-tag,
+        e .1 ∙ slice-is n t slice none ∙ ap bytes (made-set.set-tag g M),
       )
 
   -- the verdict's number, and TAGVER's, by the rule of acceptance
@@ -187,7 +233,7 @@ module _ {d p : ℕ} {K L M : List ℕ} (g : Given d p K L) (m : Message M) wher
       let k = setOf d p K L in
       let n = messageNumber k (length M) (length received) in
       ap (λ (x : TagAnswer). x .number) (e ∙ checking-is n (tagged k M) (k .bits) received none)
-      ∙ ap₂ (λ (q : ℕ) (t : List ℕ). pick {A = ℕ} (accepted q (bits received) t) 0 7) (made-set.set-bits g) tagged-tag
+      ∙ ap₂ (λ (q : ℕ) (t : List ℕ). pick {A = ℕ} (accepted q (bits received) t) 0 7) (made-set.set-bits g) (made-set.set-tag g M)
 
 -- a received slice of another size gives 3
 size-number : {d p : ℕ} {K L : List ℕ} → Given d p K L → (M received : List ℕ) (r : TagAnswer)
@@ -219,6 +265,13 @@ demand-2 = record {
       by-acceptance (accepted p (bits received) (TAGGEN d p K L M))
       (verdict-number g m received r h (rw (made-set.set-made g key) at e)) refl;
   wrong-size = λ d p K L M received made r g h key e. size-number g M received r h (rw (made-set.set-made g key) at e);
+  meant = λ order bits K L made m. made-set.made-meant m;
+  key-line-read = of-lines.key-line-read;
+  frame-judged = λ order bits K L f made r m h e. of-frames.frame-judged (made .keys) K L f (made-set.made-serves m) r h e;
+  frame-made = λ order bits K L M made r m h l e. of-frames.frame-made (made .keys) K L M (made-set.made-serves m) r h l e;
+  opened = of-frames.opened-frame;
+  opened-or = of-frames.opened-frame-or;
+  opened-or-kept = of-frames.opened-frame-or;
 }
 
 -- the counts of a stream that has taken a message from the start
@@ -300,6 +353,24 @@ checking-some k s l r e z =
         let is = ap (λ (x : TagAnswer). x .number) e ∙ checking-number n (k .bits) l (closed-stream k s) (eqb-false n 0 q) in
         absurd (omega (arith, is, a, close-most k s (length l)))
 
+-- start, any parts, and then checking: the verdict of the one call on the message that they make
+checked-parts : (k : KeySet) (ps : List (List ℕ)) (s t : Stream) (l : List ℕ) (r r′ : TagAnswer) → length (joined ps) ≤ 1048576
+    → StartPromise s → AddedAll k s ps t → CheckPromise k t l r → VerifyPromise k (joined ps) l r′ → r ≡ r′
+checked-parts k ps s t l r r′ fits e all c w =
+    let a = parts-alike k ps s t (length l) e fits all in
+    c ∙ checking-same (a .number) (a .tag) (k .bits) l ∙ sym w
+
+-- and where they are the body of a frame, that on the frame
+judged-parts : (k : KeySet) (f : List ℕ) (ps : List (List ℕ)) (s t : Stream) (r : FrameAnswer) (r′ : TagAnswer) → Frame (k .bits) f
+    → joined ps ≡ take (bodyEnd (k .bits) f) f → StartPromise s → AddedAll k s ps t → JudgePromise k f r
+    → CheckPromise k t (drop (bodyEnd (k .bits) f) f) r′
+    → (r .number ≡ r′ .number) × (r .whole ≡ r′ .whole) × (r .four ≡ r′ .four)
+judged-parts k f ps s t r r′ h q e all j c =
+    let n = bodyEnd (k .bits) f in
+    let fits : length (joined ps) ≤ 1048576 = rw (q, length-take) (omega (arith, h .most)) in
+    let is = checked-parts k ps s t (drop n f) r′ (verdict k (joined ps) (drop n f)) fits e all c refl in
+    of-frames.judged-verified k f h r r′ j (is ∙ ap (λ (M : List ℕ). verdict k M (drop n f)) q)
+
 -- DEMAND 3
 pub demand-3 : Demand3
 unfolding madeTag checkedTag
@@ -308,10 +379,8 @@ demand-3 = record {
       λ k ps s t l after after′ r r′ fits e all c w.
       let a = parts-alike k ps s t (length l) e fits all in
       (c .0 ∙ making-same (a .number) (a .tag) ∙ sym (w .0), c .1 ∙ slice-same (a .number) (a .tag) l ∙ sym (w .1));
-  checked-as-whole =
-      λ k ps s t l r r′ fits e all c w.
-      let a = parts-alike k ps s t (length l) e fits all in
-      c ∙ checking-same (a .number) (a .tag) (k .bits) l ∙ sym w;
+  checked-as-whole = checked-parts;
+  judged-as-parts = judged-parts;
   counts = counts-made;
   closing-adds =
       λ k s l after r c z.
@@ -325,4 +394,5 @@ demand-3 = record {
       let is = c ∙ checking-is n (closed-stream k s) (k .bits) l (checking-some k s l r c z) in
       (ap (λ (x : TagAnswer). x .whole) is ∙ closed-adds k s .0, ap (λ (x : TagAnswer). x .four) is ∙ closed-adds k s .1);
   bound = bound-of;
+  checked-in-parts = in-parts;
 }

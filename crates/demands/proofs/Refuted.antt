@@ -6,6 +6,7 @@ use Prim.Native.Nat.{ℕ, _+_, _-_, _≤_, _<_}
 use native.Mathlib.Omega.{arith}
 use lib.ListN.{length, getD, drop, length-drop, getD-replicate}
 use lib.Seq.{getD-at, getD-drop}
+use denote.Ref.{now}
 use Rattle.block.specs.Block.{sixteen}
 use Rattle.block.proofs.Sixteen.{sixteen-at}
 use Rattle.keys.specs.declared.KeySet.{KeySet}
@@ -83,8 +84,8 @@ other-size-checked k s received r h e z = h (closes k s (length received) (check
 -- a refusal that writes the tag slice
 pub refusal-writes-closing : (k : KeySet) (s : Stream) (slice after : List ℕ) (r : TagAnswer) → (r .number ≡ 0 → ⊥)
     → (after ≡ slice → ⊥) → ClosePromise k s slice r after → ⊥
-refusal-writes-closing k s slice after r h w e = w (demand-1 .close-refused k s slice after r e h .0)
+refusal-writes-closing k s slice after r h w e = w (demand-1 .refusals .close-refused k s slice after r e h .0)
 
 pub refusal-writes-tagging : (k : KeySet) (M slice after : List ℕ) (r : TagAnswer) → (r .number ≡ 0 → ⊥) → (after ≡ slice → ⊥)
     → TagPromise k M slice r after → ⊥
-refusal-writes-tagging k M slice after r h w e = w (demand-1 .tag-refused k M slice after r e h .0)
+refusal-writes-tagging k M slice after r h w e = w (demand-1 .refusals .tag-refused k M slice after r e h .0)

@@ -37,7 +37,7 @@ use Rattle.stream.specs.Answer.{addNumber, addedTo, closeNumber, closed}
 use Rattle.stream.specs.Promise.{AddPromise}
 use Rattle.stream.proofs.Number.{adds-none, add-refused, add-done}
 use Rattle.message.specs.Answer.{messageNumber, tagged}
-use Rattle.demands.specs.Demands.{AddedAll}
+use Rattle.demands.specs.Terms.{AddedAll}
 use Rattle.demands.proofs.Cutting.{added-again, added-none, fine-added}
 
 -- the stream of no bytes is well formed for every order

@@ -1,1 +1,4 @@
-pub mod Demands
+pub mod One
+pub mod Terms
+pub mod Three
+pub mod Two

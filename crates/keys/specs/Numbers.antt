@@ -14,7 +14,7 @@ badOrder = 1
 abbrev pub badTagLength : ℕ
 badTagLength = 2
 
--- K or L is not 16 bytes; a tag slice has not just the bytes of a tag
+-- K or L is not 16 bytes; a tag slice has not just the bytes of a tag; the space for a decoded line is under 255 bytes
 abbrev pub badSize : ℕ
 badSize = 3
 
@@ -33,3 +33,11 @@ noBytes = 6
 -- the tag differs
 abbrev pub tagDiffers : ℕ
 tagDiffers = 7
+
+-- a line is above 510 characters; a frame is above 255 bytes or has no body byte before its tag; a key line is not 68 characters
+abbrev pub badLength : ℕ
+badLength = 8
+
+-- an odd number of characters, or one that is not 0-9 or A-F
+abbrev pub notHex : ℕ
+notHex = 9

@@ -8,7 +8,7 @@ use Rattle.block.specs.Block.{Block}
 use Rattle.keys.specs.declared.KeyAnswer.{KeyAnswer}
 use Rattle.keys.specs.declared.KeySet.{KeySet}
 use Rattle.keys.specs.Arrangement.{uPart, xKey}
-use Rattle.keys.specs.Answer.{keyAnswer}
+use Rattle.keys.specs.Answer.{refusedKeys, keyAnswer}
 use Rattle.keys.specs.SetNumber.{setNumber}
 
 -- u_part hands back what stands at the place of U_w^(j), and zeros where w is not 1 to 5 or j not 1 to 3
@@ -26,6 +26,14 @@ XKeyPromise subkeys j r = r ≡ xKey subkeys j
 -- any two answers that x_key may give are equal
 pub x-key-once : (subkeys : List ℕ) (j : ℕ) (r r′ : Block) → XKeyPromise subkeys j r → XKeyPromise subkeys j r′ → r ≡ r′
 x-key-once subkeys j r r′ p q = once p q
+
+-- refused hands back the number, no steps, and the set of zeros
+abbrev pub RefusedPromise : ℕ → KeyAnswer → Type 0
+RefusedPromise number r = r ≡ refusedKeys number
+
+-- any two answers that refused may give are equal
+pub refused-once : (number : ℕ) (r r′ : KeyAnswer) → RefusedPromise number r → RefusedPromise number r′ → r ≡ r′
+refused-once number r r′ p q = once p q
 
 -- key_call hands back the answer for the order, the tag length, K and L
 abbrev pub KeyCallPromise : ℕ → ℕ → List ℕ → List ℕ → KeyAnswer → Type 0

@@ -12,8 +12,8 @@ ghost use mathlib.Core.Path.{_≡_};
 ghost use Prim.Native.Nat.{_≤_};
 ghost use Rattle.laws.specs.UpTo.{upTo};
 ghost use Rattle.pcmac.specs.Limits.{resolved};
-ghost use Rattle.keys.specs.Answer.{keyNumber, doneKeys, refusedKeys};
-ghost use Rattle.keys.specs.Promise.{UPartPromise, XKeyPromise, KeyCallPromise, SetFaultPromise};
+ghost use Rattle.keys.specs.Answer.{keyNumber, doneKeys};
+ghost use Rattle.keys.specs.Promise.{UPartPromise, XKeyPromise, RefusedPromise, KeyCallPromise, SetFaultPromise};
 
 // The numbers that a call may give, for every crate above: nothing is refused;
 pub const DONE: u8 = 0;
@@ -24,7 +24,7 @@ pub const BAD_ORDER: u8 = 1;
 // the tag length is above 128 bits, or 0 in a key set;
 pub const BAD_TAG_LENGTH: u8 = 2;
 
-// K or L is not 16 bytes, or a tag slice has not just the bytes of a tag;
+// K or L is not 16 bytes, a tag slice has not just the bytes of a tag, or the space for a line is small;
 pub const BAD_SIZE: u8 = 3;
 
 // the stream is not well formed;
@@ -36,8 +36,14 @@ pub const TOO_LONG: u8 = 5;
 // there are no bytes;
 pub const NO_BYTES: u8 = 6;
 
-// the tag differs.
+// the tag differs;
 pub const TAG_DIFFERS: u8 = 7;
+
+// a line or a frame is not of a length that it may have;
+pub const BAD_LENGTH: u8 = 8;
+
+// a line is not of pairs of hexadecimal digits.
+pub const NOT_HEX: u8 = 9;
 
 // What the order and the tag length are where 0 is given, and their highest.
 const DEFAULT_ORDER: u8 = 1;
@@ -115,8 +121,8 @@ fn meant(otherwise: u8, given: u8) -> u8
 }
 
 // A refused call hands back a set of zeros.
-fn refused(number: u8) -> KeyAnswer
-    ensures { λ r. ⌜ r ≡ refusedKeys number ⌝ }
+pub fn refused(number: u8) -> KeyAnswer
+    ensures { λ r. ⌜ RefusedPromise number r ⌝ }
 {
     KeyAnswer {
         number,

@@ -4,7 +4,9 @@ pub mod Cases
 pub mod Copied
 pub mod Entered
 pub mod Fault
+pub mod Filled
 pub mod Four
+pub mod Laid
 pub mod Lent
 pub mod Once
 pub mod Up

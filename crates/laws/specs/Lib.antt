@@ -1,6 +1,7 @@
 pub mod Agree
 pub mod Each
 pub mod Fault
+pub mod Filled
 pub mod Joined
 pub mod Pick
 pub mod Up

@@ -1,13 +1,14 @@
 -- `tag::put` meets its contract. After i turns the first i bytes stand over the slice, and end - i turns are left.
 -- Assumes nothing.
 use Prim.Native.Nat.{_-_}
-use Rattle.tag.proofs.Laid.{Laid, laid-none, laid-more, laid-length, laid-within, laid-done}
+use Rattle.laws.proofs.Laid.{Laid, laid-none, laid-length, front-within, front-more}
+use Rattle.tag.proofs.Laid.{laid-done}
 use borrow.Author.Needs.{needs}
 use Rattle.tag.proofs.put.Statement.{statement}
 use Rattle.tag.proofs.put.Tie as tie
 
 abbrev Inv-loop : tie.InvT-loop
-Inv-loop n slice₀ x end i₀ slice i = Laid x slice₀ end slice i
+Inv-loop n slice₀ x end i₀ slice i = Laid x slice₀ 0 end slice i
 
 abbrev μ-loop : tie.MeasureT-loop
 μ-loop n slice₀ x end i₀ slice i = end - i
@@ -19,13 +20,13 @@ smaller-requires-2 : tie.Need-smaller-requires-2 Inv-loop μ-loop
 smaller-requires-2 c κs = search needs
 
 loop-holds : tie.Need-loop-holds Inv-loop μ-loop
-loop-holds c = laid-none _ _ _ (search needs) (search needs)
+loop-holds c = laid-none _ _ 0 _ (search needs) (search needs)
 
 array-read-slice : tie.Need-array-read-slice Inv-loop μ-loop
 array-read-slice c = search needs
 
 slice-write-slice : tie.Need-slice-write-slice Inv-loop μ-loop
-slice-write-slice c = laid-within (c .before .loop .inv) (search needs)
+slice-write-slice c = front-within (c .before .loop .inv) (search needs)
 
 add-i : tie.Need-add-i Inv-loop μ-loop
 add-i c = search needs
@@ -34,7 +35,7 @@ loop-less : tie.Need-loop-less Inv-loop μ-loop
 loop-less c = search needs
 
 loop-again : tie.Need-loop-again Inv-loop μ-loop
-loop-again c = laid-more (c .before .loop .inv) (search needs)
+loop-again c = front-more (c .before .loop .inv) (search needs)
 
 same-length : tie.Need-same-length Inv-loop μ-loop
 same-length c = laid-length (c .before .loop .inv)

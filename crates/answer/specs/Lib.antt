@@ -1,0 +1,3 @@
+pub mod Line
+pub mod Promise
+pub mod Text

@@ -1,0 +1,58 @@
+-- What the three demands speak of.
+-- Assumes nothing.
+use mathlib.Core.Path.{_≡_}
+use mathlib.Core.Logic.{_⊎_}
+use mathlib.Core.List.{List, [], _∷_}
+use Prim.Native.Nat.{ℕ, _-_, _≤_, _<_}
+use lib.ListN.{length, take, drop}
+use Rattle.block.specs.Bits.{bits}
+use Rattle.pcmac.specs.Taggen.{TAGGEN}
+use Rattle.keys.specs.declared.KeySet.{KeySet}
+use Rattle.keys.specs.declared.KeyAnswer.{KeyAnswer}
+use Rattle.keys.specs.Promise.{KeyCallPromise}
+use Rattle.tag.specs.Tag.{tagBytes}
+use Rattle.judge.specs.declared.Stream.{Stream}
+use Rattle.stream.specs.declared.Added.{Added}
+use Rattle.stream.specs.Promise.{AddPromise}
+
+-- n is one of the numbers of a list
+abbrev pub Among : ℕ → List ℕ → Type 0
+Among n [] = ⊥
+Among n (m ∷ ms) = (n ≡ m) ⊎ Among n ms
+
+-- K and L of 16 bytes, an order from 1 to 5, a tag of 1 to 128 bits
+pub record Given (d p : ℕ) (K L : List ℕ) : Type 0 where
+  pub k-size : length K ≡ 16
+  pub l-size : length L ≡ 16
+  pub order-least : 1 ≤ d
+  pub order-most : d ≤ 5
+  pub tag-least : 1 ≤ p
+  pub tag-most : p ≤ 128
+
+-- the key call's answer for an order, a tag length, K and L, where it is done: 0 may have been handed in for either number
+pub record Made (order bits : ℕ) (K L : List ℕ) (made : KeyAnswer) : Type 0 where
+  pub answered : KeyCallPromise order bits K L made
+  pub done : made .number ≡ 0
+
+-- a message of 1 to 1,048,576 bytes
+pub record Message (M : List ℕ) : Type 0 where
+  pub some : 1 ≤ length M
+  pub most : length M ≤ 1048576
+
+-- a frame of at most 255 bytes, with at least one before its tag of p bits
+pub record Frame (p : ℕ) (f : List ℕ) : Type 0 where
+  pub some : tagBytes p < length f
+  pub most : length f ≤ 255
+
+-- where the body of a frame ends: all but the bytes of a tag of p bits
+abbrev pub bodyEnd : ℕ → List ℕ → ℕ
+bodyEnd p f = length f - tagBytes p
+
+-- the frame's tag is its body's: the first p bits behind the body are those that TAGGEN gives for the body
+abbrev pub Genuine : ℕ → ℕ → List ℕ → List ℕ → List ℕ → Type 0
+Genuine d p K L f = take p (bits (drop (bodyEnd p f) f)) ≡ TAGGEN d p K L (take (bodyEnd p f) f)
+
+-- the parts of a message added to a stream, one call after the other: from s, by answers that are permitted, to t
+abbrev pub AddedAll : KeySet → Stream → List (List ℕ) → Stream → Type 0
+AddedAll keys s [] t = s ≡ t
+AddedAll keys s (part ∷ parts) t = (a : Added) × AddPromise keys s part a × AddedAll keys (a .stream) parts t

@@ -1,0 +1,5 @@
+pub mod Digits
+pub mod Outcome
+pub mod Reading
+pub mod Refuted
+pub mod Told

@@ -1,0 +1,4 @@
+pub mod Digit
+pub mod Inner
+pub mod Line
+pub mod Promise

@@ -1,0 +1,2 @@
+pub mod KeyLine
+pub mod Promise

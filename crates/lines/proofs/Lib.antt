@@ -1,0 +1,4 @@
+pub mod Gathering
+pub mod Plain
+pub mod Reader
+pub mod Tidied

@@ -1,0 +1,4 @@
+pub mod Gather
+pub mod Lines
+pub mod Promise
+pub mod Reader

@@ -1,0 +1,35 @@
+-- What the public functions of this crate promise, and that each promise leaves one answer.
+-- Assumes nothing.
+use mathlib.Core.Path.{_≡_}
+use mathlib.Core.List.{List}
+use Prim.Native.Nat.{ℕ, min}
+use lib.ListN.{take}
+use Rattle.laws.proofs.Once.{once}
+use Rattle.lines.specs.declared.Gathered.{Gathered}
+use Rattle.lines.specs.Reader.{keptChars}
+use Rattle.lines.specs.Gather.{laid, gathered}
+
+-- tidy hands back the first characters of a line, with zeros behind them
+abbrev pub TidyPromise : List ℕ → ℕ → List ℕ → Type 0
+TidyPromise line count r = r ≡ laid (take count line)
+
+-- any two answers that tidy may give are equal
+pub tidy-once : (line : List ℕ) (count : ℕ) (r r′ : List ℕ) → TidyPromise line count r → TidyPromise line count r′ → r ≡ r′
+tidy-once line count r r′ p q = once p q
+
+-- held hands back how many characters are kept of so many
+abbrev pub HeldPromise : ℕ → ℕ → Type 0
+HeldPromise count r = r ≡ min count keptChars
+
+-- any two answers that held may give are equal
+pub held-once : (count r r′ : ℕ) → HeldPromise count r → HeldPromise count r′ → r ≡ r′
+held-once count r r′ p q = once p q
+
+-- gather hands back the line with what the part has before its next line feed, and where reading stopped
+abbrev pub GatherPromise : List ℕ → ℕ → List ℕ → ℕ → Gathered → Type 0
+GatherPromise line count part at r = r ≡ gathered line count part at
+
+-- any two answers that gather may give are equal
+pub gather-once : (line : List ℕ) (count : ℕ) (part : List ℕ) (at : ℕ) (r r′ : Gathered) → GatherPromise line count part at r
+    → GatherPromise line count part at r′ → r ≡ r′
+gather-once line count part at r r′ p q = once p q

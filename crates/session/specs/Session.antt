@@ -1,0 +1,80 @@
+-- The program check (Check.antt), line by line: what the lines so far have made of a session, what is told at a line, and how both stand
+-- in the state's record.
+-- Assumes nothing.
+use mathlib.Core.Bool.{Bool}
+use mathlib.Core.List.{List, []}
+use Prim.Native.Nat.{ℕ}
+use lib.Dec.{eqb, leb}
+use lib.ListN.{length, take}
+use Rattle.laws.specs.Pick.{pick}
+use Rattle.keys.specs.declared.KeySet.{KeySet}
+use Rattle.keys.specs.declared.KeyAnswer.{KeyAnswer}
+use Rattle.keys.specs.Numbers.{done}
+use Rattle.keys.specs.Answer.{noSet}
+use Rattle.keyline.specs.KeyLine.{keyLineAnswer}
+use Rattle.frame.specs.Frame.{refusedFrame}
+use Rattle.lines.specs.Reader.{Reader}
+use Rattle.lines.specs.Gather.{laid}
+use Rattle.answer.specs.Line.{lineAnswer}
+use Rattle.answer.specs.Text.{textOf}
+use Rattle.session.specs.declared.State.{State}
+
+-- the stages: the key line is awaited
+abbrev pub awaitsKeys : ℕ
+awaitsKeys = 0
+
+-- it has come, and frames are awaited
+abbrev pub hasKeys : ℕ
+hasKeys = 1
+
+-- it was refused, and nothing more is answered
+abbrev pub isOver : ℕ
+isOver = 2
+
+-- a session: its stage and its key set
+pub record Session : Type 0 where
+  pub stage : ℕ
+  pub keys : KeySet
+
+-- of a stage and a key set
+abbrev pub sessionOf : ℕ → KeySet → Session
+sessionOf stage keys = record { stage = stage; keys = keys }
+
+-- after the key line, by its answer
+unfoldable pub keyTurn : KeyAnswer → Session
+keyTurn made = record { stage = pick (eqb (made .number) done) hasKeys isOver; keys = made .keys }
+
+-- what is told at it: nothing, or its refusal
+unfoldable pub keyTell : KeyAnswer → List ℕ
+keyTell made = pick (eqb (made .number) done) [] (textOf (refusedFrame (made .number)))
+
+-- after a line
+unfoldable pub turnOf : Session → List ℕ → Session
+turnOf a line = pick (eqb (a .stage) awaitsKeys) (keyTurn (keyLineAnswer line)) a
+
+-- what is told at it
+unfoldable pub tellOf : Session → List ℕ → List ℕ
+tellOf a line =
+    pick (eqb (a .stage) awaitsKeys) (keyTell (keyLineAnswer line))
+    (pick (eqb (a .stage) hasKeys) (textOf (lineAnswer (a .keys) line)) [])
+
+-- the session at the start
+unfoldable pub begun : Session
+begun = record { stage = awaitsKeys; keys = noSet }
+
+-- what a state stands for
+unfoldable pub readerOf : State → Reader Session
+readerOf s = record { session = record { stage = s .stage; keys = s .keys }; line = take (s .count) (s .line) }
+
+-- the state that stands for a reader: zeros behind the characters of its line
+unfoldable pub stateOf : Reader Session → State
+stateOf r = record {
+  stage = r .session .stage;
+  keys = r .session .keys;
+  line = laid (r .line);
+  count = length (r .line);
+}
+
+-- nothing more is answered
+unfoldable pub over : State → Bool
+over s = leb isOver (s .stage)
