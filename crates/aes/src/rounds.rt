@@ -1,8 +1,9 @@
 // The rounds of FIPS 197, section 5.1, over a lent table of the substitution.
 ghost use mathlib.Core.Path.{_≡_};
-ghost use Prim.Native.Nat.{_<_};
+ghost use Prim.Native.Nat.{_+_, _*_, _<_};
+ghost use lib.ListN.{getD};
 ghost use Rattle.field.specs.Sbox.{subByte, sboxTable};
-ghost use Rattle.state.specs.State.{subBytes};
+ghost use Rattle.state.specs.State.{word, subBytes};
 ghost use Rattle.aes.specs.Cipher.{roundKey, unkeyedRound, keyedRound, lastRound, rounds, cipher};
 ghost use Rattle.aes.specs.FourRounds.{fourRounds};
 ghost use Rattle.aes.specs.Schedule.{subWord};
@@ -41,17 +42,30 @@ fn sub_bytes(sbox: &[u8; 256], s: [[u8; 4]; 4]) -> [[u8; 4]; 4]
     ]
 }
 
-// Round key i of a schedule, as a state. `o + 0` is the definition's own index.
+// Row r of round key i of a schedule. `o + (r + 0)` is the definition's own index.
+fn key_row(w: &[u8; 176], i: usize, r: usize) -> [u8; 4]
+    requires { ⌜ (i < 11) × (r < 4) ⌝ }
+    ensures { λ t. ⌜ t ≡ word (λ c. getD (now (w .entry)) (16 * i + (r + 4 * c)) 0) ⌝ }
+{
+    let o = 16 * i;
+    [
+        w[o + (r + 0)],
+        w[o + (r + 4)],
+        w[o + (r + 8)],
+        w[o + (r + 12)],
+    ]
+}
+
+// Round key i of a schedule, as a state.
 fn round_key(w: &[u8; 176], i: usize) -> [[u8; 4]; 4]
     requires { ⌜ i < 11 ⌝ }
     ensures { λ r. ⌜ r ≡ roundKey (now (w .entry)) i ⌝ }
 {
-    let o = 16 * i;
     [
-        [w[o + 0], w[o + 4], w[o + 8], w[o + 12]],
-        [w[o + 1], w[o + 5], w[o + 9], w[o + 13]],
-        [w[o + 2], w[o + 6], w[o + 10], w[o + 14]],
-        [w[o + 3], w[o + 7], w[o + 11], w[o + 15]],
+        key_row(w, i, 0),
+        key_row(w, i, 1),
+        key_row(w, i, 2),
+        key_row(w, i, 3),
     ]
 }
 

@@ -15,6 +15,12 @@ use Rattle.frame.specs.declared.FrameAnswer.{FrameAnswer}
 use Rattle.frame.specs.Frame.{refusedFrame, frameAnswer}
 use Rattle.answer.specs.Line.{lineAnswer}
 
+-- a line that does not decode is answered by its number
+pub answer-refused : (k : KeySet) (line : List ℕ) {n : ℕ} → n ≡ decodeNumber 255 line → (n ≡ 0 → ⊥) → refusedFrame n ≡ lineAnswer k line
+unfolding lineAnswer
+answer-refused k line e h = rw (ne-eqb (decodeNumber 255 line) 0 (λ z. h (e ∙ z))) (ap refusedFrame e)
+
+-- it is decoded into a space
 module _
     (k : KeySet)
     (line space : List ℕ)
@@ -32,8 +38,7 @@ module _
     written-within = omega (arith, written-most line space p, after-length line space p)
 
     pub line-refused : {r : FrameAnswer} → (d .number ≡ 0 → ⊥) → r ≡ refusedFrame (d .number) → r ≡ lineAnswer k line
-    unfolding lineAnswer
-    line-refused h e = rw (number, ne-eqb (d .number) 0 h) e
+    line-refused h e = e ∙ answer-refused k line (sym number) h
 
     pub line-judged : {r : FrameAnswer} → d .number ≡ 0 → r ≡ frameAnswer k (take (d .written) after) → r ≡ lineAnswer k line
     unfolding lineAnswer

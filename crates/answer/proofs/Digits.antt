@@ -7,10 +7,11 @@ use native.Mathlib.Omega.{arith}
 use lib.ListN.{length, getD, take, drop, set, replicate, length-append, take-append-drop}
 use lib.Seq.{take-suc, length-take-le, set-at, append-snoc, take-at, drop-append-add}
 use Rattle.frame.specs.declared.FrameAnswer.{FrameAnswer}
+use Rattle.lines.specs.Lines.{lineFeed}
 use Rattle.answer.specs.Text.{digitChar, hexText, textLength, textOf}
 
 -- so many digits
-pub hex-length : (width n : ℕ) → length (hexText width n) ≡ width
+hex-length : (width n : ℕ) → length (hexText width n) ≡ width
 unfolding hexText
 hex-length zero n = omega arith
 hex-length (suc width) n =
@@ -76,10 +77,10 @@ putting-all {text} {r} {at} {width} {n} {left} {i = zero} v h =
 
 -- the text before its fields are laid: line feeds, of which the last stays
 abbrev feeds : List ℕ
-feeds = replicate 21 10
+feeds = replicate textLength lineFeed
 
 -- a field behind what stands already
-pub put-next : (front rest : List ℕ) (at width n : ℕ) → length front ≡ at
+put-next : (front rest : List ℕ) (at width n : ℕ) → length front ≡ at
     → take at (front ++ rest) ++ hexText width n ++ drop (at + width) (front ++ rest) ≡ front ++ hexText width n ++ drop width rest
 put-next front rest at width n h =
     let seam : at + width ≡ length front + width = omega arith in

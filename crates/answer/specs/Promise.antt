@@ -18,7 +18,7 @@ pub of-line-once : (keys : KeySet) (line : List ℕ) (r r′ : FrameAnswer) → 
     → r ≡ r′
 of-line-once keys line r r′ p q = once p q
 
--- text hands back the text of an answer
+-- text hands back the text of an answer (of a count of more than eight digits the low eight: that of a frame has at most two)
 abbrev pub TextPromise : FrameAnswer → List ℕ → Type 0
 TextPromise a r = r ≡ textOf a
 

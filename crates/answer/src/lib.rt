@@ -8,13 +8,15 @@ ghost use mathlib.Core.Path.{_≡_};
 ghost use mathlib.Core.List.{_++_};
 ghost use Prim.Native.Nat.{_+_, _<_, _≤_};
 ghost use lib.ListN.{take, drop};
-ghost use Rattle.answer.specs.Text.{digitChar, hexText};
+ghost use Rattle.answer.specs.Text.{digitChar, hexText, textLength};
 ghost use Rattle.answer.specs.Promise.{OfLinePromise, TextPromise};
 use frame::FrameAnswer;
 use keys::DONE;
 use keys::KeySet;
+use lines::LINE_FEED;
 
-const LINE_FEED: u8 = 10;
+// The bytes of an answer's text.
+pub const ANSWER: usize = 21;
 
 // The verdict on a frame line. It is decoded first, and only a decoded line is judged as a frame.
 pub fn of_line(keys: KeySet, line: &[u8]) -> FrameAnswer
@@ -42,8 +44,8 @@ fn digit_char(n: usize) -> u8
 }
 
 // The last digits of a number, so many of them, at a place of a text.
-fn put(text: [u8; 21], at: usize, width: usize, n: usize) -> [u8; 21]
-    requires { ⌜ at + width ≤ 21 ⌝ }
+fn put(text: [u8; ANSWER], at: usize, width: usize, n: usize) -> [u8; ANSWER]
+    requires { ⌜ at + width ≤ textLength ⌝ }
     ensures { λ r. ⌜ r ≡ take at text ++ hexText width n ++ drop (at + width) text ⌝ }
 {
     let mut r = text;
@@ -58,10 +60,10 @@ fn put(text: [u8; 21], at: usize, width: usize, n: usize) -> [u8; 21]
 }
 
 // The text of an answer.
-pub fn text(a: FrameAnswer) -> [u8; 21]
+pub fn text(a: FrameAnswer) -> [u8; ANSWER]
     ensures { λ r. ⌜ TextPromise a r ⌝ }
 {
-    let blank = [LINE_FEED; 21];
+    let blank = [LINE_FEED; ANSWER];
     let number = put(blank, 0, 2, a.number as usize);
     let whole = put(number, 2, 8, a.whole);
     let four = put(whole, 10, 8, a.four);

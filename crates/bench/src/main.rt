@@ -1,13 +1,11 @@
-// Chains of blocks, for counting instructions: the schedule is made once, each block goes through
-// one public call. docs/BENCH.md has the commands.
+// What is counted: chains of blocks, of which the schedule is made once and each block goes through
+// one public call; streams; and messages at once. bench/count asks, docs/BENCH.md has the figures.
 //
 // Standard input is a letter and a digit: E or G, and how many times 4,096 blocks. Or a letter and
-// two digits, of which the second is the order: A, how many times 4,096 blocks are absorbed where
-// they lie; S, how many streams of 1 MiB, in one part, are added to and closed; T, how many messages
-// of 100 bytes are tagged in one call. The last block of the chain or the last tag is written, 16
-// bytes.
+// two digits, of which the second is the order: S, how many streams of 1 MiB, in one part, are added
+// to and closed; T, how many messages of 100 bytes are tagged in one call. The last block of the
+// chain or the last tag is written, 16 bytes.
 ghost use Prim.Native.Nat.{_<_};
-use chain::Chain;
 use keys::KeySet;
 use libc::STDOUT_FILENO;
 
@@ -62,28 +60,6 @@ fn times(digit: u8) -> usize
     (digit - b'0') as usize
 }
 
-// The chain value after a part of 4,096 blocks, absorbed so many times.
-fn absorbed(order: usize, times: usize) -> [u8; 16]
-    requires { ⌜ times < 10 ⌝ }
-{
-    let set = set_for(order);
-    let round = set.round;
-    let subkeys = set.subkeys;
-    let part = [5u8; 65536];
-    let mut c = Chain {
-        value: [0u8; 16],
-        whole: 0,
-        four: 0,
-    };
-    let mut n: usize = 0;
-    while n < times {
-        let next = engine::absorb(set.order, &round, &subkeys, 4096 * n, c, &part);
-        c = next;
-        n += 1;
-    }
-    c.value
-}
-
 // The key set of an order.
 fn set_for(order: usize) -> KeySet {
     let made = keys::key_call(order, 128, &[7u8; 16], &[9u8; 16]);
@@ -125,11 +101,6 @@ fn tagged(order: usize, times: usize) -> [u8; 16] {
 fn main() {
     let mut asked = [0u8; 3];
     io::read_full(0, &mut asked);
-    if asked[0] == b'A' {
-        let value = absorbed(times(asked[2]), times(asked[1]));
-        io::write_all(STDOUT_FILENO, &value);
-        return;
-    }
     if asked[0] == b'S' {
         let tag = streamed(times(asked[2]), times(asked[1]));
         io::write_all(STDOUT_FILENO, &tag);

@@ -20,17 +20,17 @@ value a [] = a
 value a (b ∷ x) = value (2 * a + b) x
 
 -- one byte of at most eight bits, filled up with zeros at its low end
-abbrev pub filled : List ℕ → List ℕ
-filled x = value 0 (take 8 (x ++ replicate 8 0)) ∷ []
+abbrev pub lastByte : List ℕ → List ℕ
+lastByte x = value 0 (take 8 (x ++ replicate 8 0)) ∷ []
 
 -- the bytes of a list of bits, eight bits to a byte; what is left over fills the high end of one byte more
 unfoldable pub bytes : List ℕ → List ℕ
 bytes [] = []
-bytes (a ∷ []) = filled (a ∷ [])
-bytes (a ∷ b ∷ []) = filled (a ∷ b ∷ [])
-bytes (a ∷ b ∷ c ∷ []) = filled (a ∷ b ∷ c ∷ [])
-bytes (a ∷ b ∷ c ∷ d ∷ []) = filled (a ∷ b ∷ c ∷ d ∷ [])
-bytes (a ∷ b ∷ c ∷ d ∷ e ∷ []) = filled (a ∷ b ∷ c ∷ d ∷ e ∷ [])
-bytes (a ∷ b ∷ c ∷ d ∷ e ∷ f ∷ []) = filled (a ∷ b ∷ c ∷ d ∷ e ∷ f ∷ [])
-bytes (a ∷ b ∷ c ∷ d ∷ e ∷ f ∷ g ∷ []) = filled (a ∷ b ∷ c ∷ d ∷ e ∷ f ∷ g ∷ [])
+bytes (a ∷ []) = lastByte (a ∷ [])
+bytes (a ∷ b ∷ []) = lastByte (a ∷ b ∷ [])
+bytes (a ∷ b ∷ c ∷ []) = lastByte (a ∷ b ∷ c ∷ [])
+bytes (a ∷ b ∷ c ∷ d ∷ []) = lastByte (a ∷ b ∷ c ∷ d ∷ [])
+bytes (a ∷ b ∷ c ∷ d ∷ e ∷ []) = lastByte (a ∷ b ∷ c ∷ d ∷ e ∷ [])
+bytes (a ∷ b ∷ c ∷ d ∷ e ∷ f ∷ []) = lastByte (a ∷ b ∷ c ∷ d ∷ e ∷ f ∷ [])
+bytes (a ∷ b ∷ c ∷ d ∷ e ∷ f ∷ g ∷ []) = lastByte (a ∷ b ∷ c ∷ d ∷ e ∷ f ∷ g ∷ [])
 bytes (a ∷ b ∷ c ∷ d ∷ e ∷ f ∷ g ∷ h ∷ x) = value 0 (a ∷ b ∷ c ∷ d ∷ e ∷ f ∷ g ∷ h ∷ []) ∷ bytes x

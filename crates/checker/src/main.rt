@@ -2,6 +2,7 @@
 // matters is proved in the crate `session`; this reads, calls and writes.
 ghost use Prim.Native.Nat.{_≤_};
 ghost use lib.ListN.{length};
+ghost use Rattle.answer.specs.Text.{textLength};
 use libc::STDIN_FILENO;
 use libc::STDOUT_FILENO;
 use session::State;
@@ -16,7 +17,7 @@ struct Turn {
 // and what was written goes out each time. A failed write ends the program, and so does a refused key
 // line.
 fn answer<'a>(s: State, part: &'a [u8], space: &'a mut [u8]) -> Turn
-    requires { ⌜ 21 ≤ length (now space) ⌝ }
+    requires { ⌜ textLength ≤ length (now space) ⌝ }
 {
     let mut state = s;
     let mut at: usize = 0;
@@ -45,7 +46,7 @@ fn finish(s: State, space: &mut [u8]) {
 
 // Reads once, and answers what came. A failed read counts as the end of the input.
 fn take_turn<'a>(s: State, input: &'a mut [u8], space: &'a mut [u8]) -> Turn
-    requires { ⌜ 21 ≤ length (now space) ⌝ }
+    requires { ⌜ textLength ≤ length (now space) ⌝ }
 {
     let got = libc::read(STDIN_FILENO, input);
     let n = io::count(got, input);

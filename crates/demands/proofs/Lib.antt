@@ -1,8 +1,11 @@
 pub mod Cutting
-pub mod Demands
+pub mod DemandOne
+pub mod DemandThree
+pub mod DemandTwo
 pub mod Frames
 pub mod KeySet
 pub mod Lines
-pub mod Refuted
+pub mod Numbers
 pub mod TagBits
+pub mod When
 pub mod Whole

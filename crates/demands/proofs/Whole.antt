@@ -1,21 +1,19 @@
 -- A message in parts, from the start: what the stream is then, and that closing it is the one call on the message.
 -- Assumes nothing.
 use mathlib.Core.Path.{_≡_, refl, ap, ap₂, sym, _∙_}
-use mathlib.Core.Bool.{Bool, true, false}
+use mathlib.Core.Bool.{false}
+use mathlib.Core.Logic.{⊎-elim}
 use mathlib.Core.List.{List, [], _∷_, _++_}
 use Prim.Native.Nat.{ℕ, _+_, _≤_}
 use native.Mathlib.Nat.{zero-add}
 use native.Mathlib.Omega.{arith}
-use lib.Dec.{eqb}
 use lib.ListN.{length, length-append}
-use borrow.Author.Tests.{eqb-true, eqb-false}
 use Rattle.laws.specs.Joined.{joined}
 use Rattle.laws.specs.Up.{up}
 use Rattle.laws.proofs.Fault.{fault-found}
 use Rattle.laws.proofs.Up.{up-none}
 use Rattle.block.specs.Block.{blocks}
 use Rattle.block.proofs.Sixteen.{sixteen-front}
-use Rattle.chain.specs.Walk.{Step}
 use Rattle.chain.specs.Stream.{start, settled, add}
 use Rattle.chain.proofs.Cut.{held-most}
 use Rattle.pcmac.specs.Limits.{messageLimit}
@@ -32,12 +30,12 @@ use Rattle.judge.proofs.Faultless.{formed-stream, fits-length}
 use Rattle.judge.proofs.Held.{Fine}
 use Rattle.judge.proofs.Total.{held-none}
 use Rattle.judge.proofs.Zeros.{are-zeros}
-use Rattle.stream.specs.declared.Added.{Added}
-use Rattle.stream.specs.Answer.{addNumber, addedTo, closeNumber, closed}
-use Rattle.stream.specs.Promise.{AddPromise}
-use Rattle.stream.proofs.Number.{adds-none, add-refused, add-done}
+use Rattle.stream.specs.Answer.{addedTo, closeNumber, closed}
+use Rattle.stream.proofs.Number.{adds-none, added-by}
+use Rattle.stream.proofs.Adding.{added-total}
 use Rattle.message.specs.Answer.{messageNumber, tagged}
 use Rattle.demands.specs.Terms.{AddedAll}
+use Rattle.laws.proofs.Cases.{none-or-some}
 use Rattle.demands.proofs.Cutting.{added-again, added-none, fine-added}
 
 -- the stream of no bytes is well formed for every order
@@ -56,23 +54,6 @@ fine-start d = record {
   };
   size = refl;
 }
-
--- an answer of adding by its number
-module _ (k : KeySet) (s : Stream) (p : List ℕ) (a : Added) (e : AddPromise k s p a) where
-  pub added-by : addNumber k s (length p) ≡ 0 → (a .number ≡ 0) × (a .stream ≡ addedTo (k .order) (stepOf (keysIn k)) s p)
-  added-by z =
-      let q = e ∙ sym (add-done k s p z refl) in
-      (ap (λ (x : Added). x .number) q, ap (λ (x : Added). x .stream) q)
-
-  pub refused-by : (addNumber k s (length p) ≡ 0 → ⊥) → (a .number ≡ addNumber k s (length p)) × (a .stream ≡ s)
-  refused-by z =
-      let q = e ∙ sym (add-refused k s p refl z) in
-      (ap (λ (x : Added). x .number) q, ap (λ (x : Added). x .stream) q)
-
--- a part raises the total by its bytes
-pub added-total : (d : ℕ) (f : Step) (s : Stream) (p : List ℕ) → addedTo d f s p .total ≡ s .total + length p
-unfolding addedTo streamOf
-added-total d f s p = refl
 
 -- parts that stay within the limit, added to a well-formed stream under a key set that is taken: the message that they make, added
 pub parts-added : (k : KeySet) (s : Stream) (ps : List (List ℕ)) (t : Stream) → Taken k → Fine (k .order) s
@@ -134,13 +115,12 @@ refused-alike k t M n h =
 -- start, any parts that stay within the limit, and then closing: the one call on the message that they make
 pub parts-alike : (k : KeySet) (ps : List (List ℕ)) (s t : Stream) (n : ℕ) → s ≡ started → length (joined ps) ≤ messageLimit
     → AddedAll k s ps t → Alike k t (joined ps) n
-parts-alike k ps s t n e fits all = by (eqb (setNumber k) 0) refl
+parts-alike k ps s t n e fits all = ⊎-elim taken (refused-alike k t (joined ps) n) (none-or-some (setNumber k))
   where
-    by : (b : Bool) → eqb (setNumber k) 0 ≡ b → Alike k t (joined ps) n
-    by true z =
-        let set = set-taken k (eqb-true (setNumber k) 0 z) in
+    taken : setNumber k ≡ 0 → Alike k t (joined ps) n
+    taken z =
+        let set = set-taken k z in
         let all′ : AddedAll k started ps t = rw e at all in
         let room : 0 + length (joined ps) ≤ messageLimit = rw zero-add fits in
         let is = parts-added k started ps t set (fine-start (k .order)) room all′ in
         rw is (taken-alike k (joined ps) n set fits)
-    by false z = refused-alike k t (joined ps) n (eqb-false (setNumber k) 0 z)

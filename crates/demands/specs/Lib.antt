@@ -1,3 +1,4 @@
+pub mod Numbers
 pub mod One
 pub mod Terms
 pub mod Three

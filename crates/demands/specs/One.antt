@@ -1,11 +1,11 @@
 -- DEMAND 1. Each call has an answer to every input (that it is the only one is the -once theorem of its promise; that the call comes to
--- an end is the check's verdict), and a refusal leaves all that was handed in as it was, and carries no counts and no lengths.
+-- an end is the check's verdict); its number is the outline's; and a refusal leaves all that was handed in as it was, and carries no
+-- lengths and, save with 7, no counts.
 -- Assumes nothing.
 use mathlib.Core.Path.{_≡_}
-use mathlib.Core.Logic.{_⊎_}
-use mathlib.Core.Bool.{Bool, true, false}
-use mathlib.Core.List.{List, [], _∷_}
-use Prim.Native.Nat.{ℕ, _≤_, _<_}
+use mathlib.Core.Bool.{Bool, true}
+use mathlib.Core.List.{List, []}
+use Prim.Native.Nat.{ℕ}
 use lib.ListN.{length, take}
 use denote.Ref.{RefT, now, ptr}
 use Rattle.keys.specs.declared.KeySet.{KeySet}
@@ -14,7 +14,6 @@ use Rattle.keys.specs.Answer.{noSet}
 use Rattle.keys.specs.Promise.{KeyCallPromise}
 use Rattle.keys.specs.SetNumber.{setNumber}
 use Rattle.tag.specs.declared.TagAnswer.{TagAnswer}
-use Rattle.tag.specs.Tag.{tagBytes}
 use Rattle.judge.specs.declared.Stream.{Stream}
 use Rattle.judge.specs.Stream.{formed}
 use Rattle.stream.specs.declared.Added.{Added}
@@ -22,7 +21,6 @@ use Rattle.stream.specs.Promise.{StartPromise, AddPromise, ClosePromise, CheckP
 use Rattle.message.specs.Answer.{tagged}
 use Rattle.message.specs.Promise.{TagPromise, VerifyPromise}
 use Rattle.hex.specs.declared.LineAnswer.{LineAnswer}
-use Rattle.hex.specs.Line.{isHex}
 use Rattle.hex.specs.Promise.{DecodePromise}
 use Rattle.keyline.specs.Promise.{ReadPromise}
 use Rattle.frame.specs.declared.FrameAnswer.{FrameAnswer}
@@ -32,7 +30,8 @@ use Rattle.session.specs.declared.State.{State}
 use Rattle.session.specs.declared.Stepped.{Stepped}
 use Rattle.answer.specs.Promise.{OfLinePromise, TextPromise}
 use Rattle.session.specs.Promise.{BeginPromise, IsOverPromise, StepPromise, FinishPromise}
-use Rattle.demands.specs.Terms.{Among, bodyEnd}
+use Rattle.demands.specs.Numbers.{Numbers}
+use Rattle.demands.specs.Terms.{bodyEnd}
 
 -- for every input an answer, and what is lent as the call leaves it
 pub record Answers : Type 0 where
@@ -63,7 +62,7 @@ pub record Answers : Type 0 where
   pub finishes : (s : State) (space : List ℕ) → (r : Stepped) × (after : List ℕ) × FinishPromise s space r after
   pub is-over : (s : State) → (r : Bool) × IsOverPromise s r
 
--- the calls over keys and messages, refused
+-- the calls, refused
 pub record Refusals : Type 0 where
   -- the key call: no steps, and a set of zeros
   pub keys-refused : (order bits : ℕ) (K L : List ℕ) (made : KeyAnswer) → KeyCallPromise order bits K L made
@@ -81,53 +80,21 @@ pub record Refusals : Type 0 where
       → (r .number ≡ 0 → ⊥) → (r .number ≡ 7 → ⊥) → (r .whole ≡ 0) × (r .four ≡ 0)
   pub verify-refused : (keys : KeySet) (M received : List ℕ) (r : TagAnswer) → VerifyPromise keys M received r
       → (r .number ≡ 0 → ⊥) → (r .number ≡ 7 → ⊥) → (r .whole ≡ 0) × (r .four ≡ 0)
-  -- a part of no bytes, for a well-formed stream under a key set that is not refused, is done and changes nothing (its array of held
-  -- bytes has sixteen, as its type says)
-  pub add-nothing : (keys : KeySet) (s : Stream) (a : Added) → setNumber keys ≡ 0 → formed (keys .order) s ≡ true
-      → length (s .held) ≡ 16 → AddPromise keys s [] a → (a .number ≡ 0) × (a .stream ≡ s)
-
--- the calls over lines
-pub record Lines : Type 0 where
-  -- decoding, refused: each byte of the space, and no bytes counted
+  -- decoding a line: each byte of the space, and no bytes counted
   pub decode-refused : (line space after : List ℕ) (r : LineAnswer) → DecodePromise line space r after → (r .number ≡ 0 → ⊥)
       → (after ≡ space) × (r .written ≡ 0)
-  -- the key line, refused: no steps, and a set of zeros
+  -- the key line: no steps, and a set of zeros
   pub key-line-refused : (line : List ℕ) (made : KeyAnswer) → ReadPromise line made → (made .number ≡ 0 → ⊥)
       → (made .steps ≡ 0) × (made .keys ≡ noSet)
-  -- the numbers that they may give
-  pub decode-numbers : (line space after : List ℕ) (r : LineAnswer) → DecodePromise line space r after
-      → Among (r .number) (0 ∷ 3 ∷ 8 ∷ 9 ∷ [])
-  pub key-line-numbers : (line : List ℕ) (made : KeyAnswer) → ReadPromise line made → Among (made .number) (0 ∷ 1 ∷ 2 ∷ 8 ∷ 9 ∷ [])
-  -- the lowest applies: a line above 510 characters gives 8, whatever they are; so does a key line that is not 68
-  pub long-line : (line space after : List ℕ) (r : LineAnswer) → 255 ≤ length space → 510 < length line
-      → DecodePromise line space r after → r .number ≡ 8
-  pub other-key-line : (line : List ℕ) (made : KeyAnswer) → (length line ≡ 68 → ⊥) → ReadPromise line made → made .number ≡ 8
-  -- one that is not too long, and not of pairs of digits, gives 9; so does a key line of 68, whatever its order and tag length are
-  pub other-line : (line space after : List ℕ) (r : LineAnswer) → 255 ≤ length space → length line ≤ 510 → isHex line ≡ false
-      → DecodePromise line space r after → r .number ≡ 9
-  pub key-line-digits : (line : List ℕ) (made : KeyAnswer) → length line ≡ 68 → isHex line ≡ false → ReadPromise line made
-      → made .number ≡ 9
-
--- the calls over frames
-pub record Frames : Type 0 where
-  -- judging, refused with another number than 7: no counts and no length
+  -- judging a frame, or a frame line, refused with another number than 7: no counts and no length
   pub judge-refused : (keys : KeySet) (f : List ℕ) (r : FrameAnswer) → JudgePromise keys f r → (r .number ≡ 0 → ⊥)
       → (r .number ≡ 7 → ⊥) → (r .whole ≡ 0) × (r .four ≡ 0) × (r .body ≡ 0)
-  -- with 7: no length, and the counts of the check, which are those of the body's tag
+  pub frame-line-refused : (keys : KeySet) (line : List ℕ) (r : FrameAnswer) → OfLinePromise keys line r → (r .number ≡ 0 → ⊥)
+      → (r .number ≡ 7 → ⊥) → (r .whole ≡ 0) × (r .four ≡ 0) × (r .body ≡ 0)
+  -- a frame with 7: no length, and the counts of the check, which are those of the body's tag
   pub judge-differs : (keys : KeySet) (f : List ℕ) (r : FrameAnswer) → JudgePromise keys f r → r .number ≡ 7
       → (r .body ≡ 0) × (r .whole ≡ tagged keys (take (bodyEnd (keys .bits) f) f) .whole)
       × (r .four ≡ tagged keys (take (bodyEnd (keys .bits) f) f) .four)
-  -- the numbers that it may give
-  pub judge-numbers : (keys : KeySet) (f : List ℕ) (r : FrameAnswer) → JudgePromise keys f r
-      → Among (r .number) (0 ∷ 1 ∷ 2 ∷ 7 ∷ 8 ∷ [])
-  -- the lowest applies: a key set of no order that there is gives 1, whatever its tag length and the frame are
-  pub order-first : (keys : KeySet) (f : List ℕ) (r : FrameAnswer) → (keys .order ≡ 0) ⊎ (5 < keys .order) → JudgePromise keys f r
-      → r .number ≡ 1
-  -- then one of no tag length that there is gives 2, and a frame above 255 bytes or without a body byte before its tag gives 8
-  pub tag-length-next : (keys : KeySet) (f : List ℕ) (r : FrameAnswer) → 1 ≤ keys .order → keys .order ≤ 5
-      → (keys .bits ≡ 0) ⊎ (128 < keys .bits) → JudgePromise keys f r → r .number ≡ 2
-  pub length-next : (keys : KeySet) (f : List ℕ) (r : FrameAnswer) → setNumber keys ≡ 0
-      → (255 < length f) ⊎ (length f ≤ tagBytes (keys .bits)) → JudgePromise keys f r → r .number ≡ 8
   -- opening a frame that judging refuses: no bytes, at the place of the frame
   pub open-refused : (keys : KeySet) (frame o : RefT (List ℕ)) (r : FrameAnswer) → JudgePromise keys (now frame) r
       → (r .number ≡ 0 → ⊥) → OpenPromise keys frame o → (now o ≡ []) × (ptr o ≡ ptr frame)
@@ -140,6 +107,9 @@ pub record Frames : Type 0 where
 -- all of it
 pub record Demand1 : Type 0 where
   pub answers : Answers
+  pub numbers : Numbers
   pub refusals : Refusals
-  pub lines : Lines
-  pub frames : Frames
+  -- a part of no bytes, for a well-formed stream under a key set that is not refused, is done and changes nothing (its array of held
+  -- bytes has sixteen, as its type says)
+  pub add-nothing : (keys : KeySet) (s : Stream) (a : Added) → setNumber keys ≡ 0 → formed (keys .order) s ≡ true
+      → length (s .held) ≡ 16 → AddPromise keys s [] a → (a .number ≡ 0) × (a .stream ≡ s)

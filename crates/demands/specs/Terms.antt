@@ -1,7 +1,6 @@
 -- What the three demands speak of.
 -- Assumes nothing.
 use mathlib.Core.Path.{_≡_}
-use mathlib.Core.Logic.{_⊎_}
 use mathlib.Core.List.{List, [], _∷_}
 use Prim.Native.Nat.{ℕ, _-_, _≤_, _<_}
 use lib.ListN.{length, take, drop}
@@ -14,20 +13,6 @@ use Rattle.tag.specs.Tag.{tagBytes}
 use Rattle.judge.specs.declared.Stream.{Stream}
 use Rattle.stream.specs.declared.Added.{Added}
 use Rattle.stream.specs.Promise.{AddPromise}
-
--- n is one of the numbers of a list
-abbrev pub Among : ℕ → List ℕ → Type 0
-Among n [] = ⊥
-Among n (m ∷ ms) = (n ≡ m) ⊎ Among n ms
-
--- K and L of 16 bytes, an order from 1 to 5, a tag of 1 to 128 bits
-pub record Given (d p : ℕ) (K L : List ℕ) : Type 0 where
-  pub k-size : length K ≡ 16
-  pub l-size : length L ≡ 16
-  pub order-least : 1 ≤ d
-  pub order-most : d ≤ 5
-  pub tag-least : 1 ≤ p
-  pub tag-most : p ≤ 128
 
 -- the key call's answer for an order, a tag length, K and L, where it is done: 0 may have been handed in for either number
 pub record Made (order bits : ℕ) (K L : List ℕ) (made : KeyAnswer) : Type 0 where

@@ -2,7 +2,6 @@
 -- definition's; and a part takes no more steps than it may.
 -- Assumes nothing.
 use mathlib.Core.Path.{_≡_}
-use mathlib.Core.Logic.{_⊎_}
 use mathlib.Core.List.{List}
 use Prim.Native.Nat.{ℕ, _+_, _≤_}
 use lib.ListN.{length, take, drop}
@@ -11,7 +10,6 @@ use Rattle.laws.specs.Up.{up}
 use Rattle.pcmac.specs.Taggen.{keysOf, chained}
 use Rattle.keys.specs.declared.KeySet.{KeySet}
 use Rattle.keys.specs.declared.KeyAnswer.{KeyAnswer}
-use Rattle.keys.specs.Promise.{KeyCallPromise}
 use Rattle.tag.specs.declared.TagAnswer.{TagAnswer}
 use Rattle.judge.specs.declared.Stream.{Stream}
 use Rattle.stream.specs.declared.Added.{Added}
@@ -20,7 +18,8 @@ use Rattle.message.specs.Promise.{TagPromise, VerifyPromise}
 use Rattle.frame.specs.declared.FrameAnswer.{FrameAnswer}
 use Rattle.frame.specs.Promise.{JudgePromise}
 use Rattle.session.specs.Cut.{InParts}
-use Rattle.demands.specs.Terms.{Given, Frame, bodyEnd, AddedAll}
+use Rattle.demands.specs.Numbers.{Verdict}
+use Rattle.demands.specs.Terms.{Made, Frame, bodyEnd, AddedAll}
 
 -- all of it
 pub record Demand3 : Type 0 where
@@ -37,15 +36,17 @@ pub record Demand3 : Type 0 where
       → Frame (keys .bits) f → joined parts ≡ take (bodyEnd (keys .bits) f) f → StartPromise s → AddedAll keys s parts t
       → JudgePromise keys f r → CheckPromise keys t (drop (bodyEnd (keys .bits) f) f) r′
       → (r .number ≡ r′ .number) × (r .whole ≡ r′ .whole) × (r .four ≡ r′ .four)
-  -- after the parts so far, whichever they are, the two counts are those of Algorithm 2.2 on the blocks known not to be the last
-  pub counts : (d p : ℕ) (K L : List ℕ) (parts : List (List ℕ)) (s t : Stream) (made : KeyAnswer) → Given d p K L
-      → length (joined parts) ≤ 1048576 → KeyCallPromise d p K L made → StartPromise s → AddedAll (made .keys) s parts t
-      → (t .whole ≡ chained (keysOf d K L) d (joined parts) .whole) × (t .four ≡ chained (keysOf d K L) d (joined parts) .four)
+  -- after the parts so far, whichever they are, under every key set that the key call answers, the two counts are those of Algorithm
+  -- 2.2 on the blocks known not to be the last
+  pub counts : (order bits : ℕ) (K L : List ℕ) (parts : List (List ℕ)) (s t : Stream) (made : KeyAnswer) → Made order bits K L made
+      → length (joined parts) ≤ 1048576 → StartPromise s → AddedAll (made .keys) s parts t
+      → (t .whole ≡ chained (keysOf (made .keys .order) K L) (made .keys .order) (joined parts) .whole)
+      × (t .four ≡ chained (keysOf (made .keys .order) K L) (made .keys .order) (joined parts) .four)
   -- closing adds one whole-cipher step, to whichever stream; so does checking, accepted or not
   pub closing-adds : (keys : KeySet) (s : Stream) (slice after : List ℕ) (r : TagAnswer) → ClosePromise keys s slice r after
       → r .number ≡ 0 → (r .whole ≡ s .whole + 1) × (r .four ≡ s .four)
   pub checking-adds : (keys : KeySet) (s : Stream) (received : List ℕ) (r : TagAnswer) → CheckPromise keys s received r
-      → (r .number ≡ 0) ⊎ (r .number ≡ 7) → (r .whole ≡ s .whole + 1) × (r .four ≡ s .four)
+      → Verdict (r .number) → (r .whole ≡ s .whole + 1) × (r .four ≡ s .four)
   -- a part of n bytes takes at most n / 16 steps rounded up, of which at most that number over the order plus one, rounded up, are
   -- whole-cipher steps: for whichever stream and key set
   pub bound : (keys : KeySet) (s : Stream) (part : List ℕ) (a : Added) → AddPromise keys s part a

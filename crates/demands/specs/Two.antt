@@ -1,9 +1,10 @@
--- DEMAND 2. Under the key set that the key call answers for K and L, the tag made is TAGGEN's, and a received tag is accepted exactly
--- when TAGVER accepts it, and otherwise refused with 7. A slice that is not of the size of a tag is refused with 3. An accepted frame
--- yields its own body. The definitions are those of NEC's specification over FIPS 197.
+-- DEMAND 2. Under every key set that the key call answers for K and L, the tag made is TAGGEN's, and a received tag is accepted exactly
+-- when TAGVER accepts its first p bits, and otherwise refused with 7. A frame is accepted by the same rule, and an accepted one yields
+-- its own body. The definitions are those of NEC's specification over FIPS 197.
 -- Assumes nothing.
 use mathlib.Core.Path.{_≡_}
-use mathlib.Core.Logic.{_⊎_, _↔_}
+use mathlib.Core.Bool.{true}
+use mathlib.Core.Logic.{_↔_}
 use mathlib.Core.List.{List, _++_}
 use Prim.Native.Nat.{ℕ, _+_, _≤_}
 use lib.ListN.{length, getD, take, drop}
@@ -18,45 +19,49 @@ use Rattle.keys.specs.Promise.{KeyCallPromise}
 use Rattle.tag.specs.declared.TagAnswer.{TagAnswer}
 use Rattle.tag.specs.Tag.{tagBytes}
 use Rattle.message.specs.Promise.{TagPromise, VerifyPromise}
-use Rattle.hex.specs.Line.{decoded}
+use Rattle.hex.specs.Line.{isHex, decoded}
 use Rattle.keyline.specs.Promise.{ReadPromise}
 use Rattle.frame.specs.declared.FrameAnswer.{FrameAnswer}
 use Rattle.frame.specs.Promise.{JudgePromise, OpenPromise, OpenOrPromise}
 use Rattle.bridge.specs.Promise.{OpenOrKeepPromise}
-use Rattle.demands.specs.Terms.{Given, Made, Message, Frame, bodyEnd, Genuine}
+use Rattle.answer.specs.Promise.{OfLinePromise}
+use Rattle.demands.specs.Numbers.{Verdict}
+use Rattle.demands.specs.Terms.{Made, Message, Frame, bodyEnd, Genuine}
 
--- all of it
+-- all of it. The specification's d and p are those of the key set: made .keys .order and made .keys .bits
 pub record Demand2 : Type 0 where
-  -- a message's tag is made
-  pub tag-made : (d p : ℕ) (K L M slice after : List ℕ) (made : KeyAnswer) (r : TagAnswer) → Given d p K L → Message M
-      → length slice ≡ tagBytes p → KeyCallPromise d p K L made → TagPromise (made .keys) M slice r after
-      → (r .number ≡ 0) × (after ≡ bytes (TAGGEN d p K L M))
-  -- and checked
-  pub tag-checked : (d p : ℕ) (K L M received : List ℕ) (made : KeyAnswer) (r : TagAnswer) → Given d p K L → Message M
-      → length received ≡ tagBytes p → KeyCallPromise d p K L made → VerifyPromise (made .keys) M received r
-      → ((r .number ≡ 0) ↔ (TAGVER d p K L M (bits received) ≡ 1)) × ((r .number ≡ 0) ⊎ (r .number ≡ 7))
-  pub wrong-size : (d p : ℕ) (K L M received : List ℕ) (made : KeyAnswer) (r : TagAnswer) → Given d p K L
-      → (length received ≡ tagBytes p → ⊥) → KeyCallPromise d p K L made → VerifyPromise (made .keys) M received r → r .number ≡ 3
   -- every key set that the key call answers has the order and the tag length that were meant: 0 is order 1, and 128 bits
   pub meant : (order bits : ℕ) (K L : List ℕ) (made : KeyAnswer) → Made order bits K L made
       → (made .keys .order ≡ resolvedOrder order) × (made .keys .bits ≡ resolvedTag bits)
-  -- a key line that is not refused has the key call's answer for what it says: a byte of order, one of tag length, K, L
-  pub key-line-read : (line : List ℕ) (made : KeyAnswer) → ReadPromise line made → made .number ≡ 0
-      → (length line ≡ 68)
-      × KeyCallPromise (getD (decoded line) 0 0) (getD (decoded line) 1 0) (take 16 (drop 2 (decoded line)))
+  -- a key line of 68 digits has the key call's answer for what it says: a byte of order, one of tag length, K, L
+  pub key-line-read : (line : List ℕ) (made : KeyAnswer) → length line ≡ 68 → isHex line ≡ true → ReadPromise line made
+      → KeyCallPromise (getD (decoded line) 0 0) (getD (decoded line) 1 0) (take 16 (drop 2 (decoded line)))
       (take 16 (drop 18 (decoded line))) made
-  -- under every such key set a frame is accepted exactly when its tag is its body's, and otherwise refused with 7; accepted, its body
-  -- is all but the bytes of the tag
+  -- a message's tag is made
+  pub tag-made : (order bits : ℕ) (K L M slice after : List ℕ) (made : KeyAnswer) (r : TagAnswer) → Made order bits K L made
+      → Message M → length slice ≡ tagBytes (made .keys .bits) → TagPromise (made .keys) M slice r after
+      → (r .number ≡ 0) × (after ≡ bytes (TAGGEN (made .keys .order) (made .keys .bits) K L M))
+  -- and checked
+  pub tag-checked : (order tagBits : ℕ) (K L M received : List ℕ) (made : KeyAnswer) (r : TagAnswer) → Made order tagBits K L made
+      → Message M → length received ≡ tagBytes (made .keys .bits) → VerifyPromise (made .keys) M received r
+      → ((r .number ≡ 0)
+      ↔ (TAGVER (made .keys .order) (made .keys .bits) K L M (take (made .keys .bits) (bits received)) ≡ 1))
+      × Verdict (r .number)
+  -- a frame is accepted exactly when its tag is its body's, and otherwise refused with 7; accepted, its body is all but the bytes of
+  -- the tag
   pub frame-judged : (order bits : ℕ) (K L f : List ℕ) (made : KeyAnswer) (r : FrameAnswer) → Made order bits K L made
       → Frame (made .keys .bits) f → JudgePromise (made .keys) f r
       → ((r .number ≡ 0) ↔ Genuine (made .keys .order) (made .keys .bits) K L f)
-      × ((r .number ≡ 0) ⊎ (r .number ≡ 7))
+      × Verdict (r .number)
       × (r .number ≡ 0 → r .body ≡ bodyEnd (made .keys .bits) f)
   -- and a body with the bytes of its tag behind it is accepted, as just that body
   pub frame-made : (order bits : ℕ) (K L M : List ℕ) (made : KeyAnswer) (r : FrameAnswer) → Made order bits K L made → 1 ≤ length M
       → length M + tagBytes (made .keys .bits) ≤ 255
       → JudgePromise (made .keys) (M ++ bytes (TAGGEN (made .keys .order) (made .keys .bits) K L M)) r
       → (r .number ≡ 0) × (r .body ≡ length M)
+  -- a frame line of at most 510 digits, in pairs, is judged as the frame that it says
+  pub line-judged : (keys : KeySet) (line : List ℕ) (r : FrameAnswer) → length line ≤ 510 → isHex line ≡ true
+      → OfLinePromise keys line r → JudgePromise keys (decoded line) r
   -- opening a frame that judging accepts, under whichever key set, yields that body, as that part of the frame
   pub opened : (keys : KeySet) (frame o : RefT (List ℕ)) (r : FrameAnswer) → JudgePromise keys (now frame) r → r .number ≡ 0
       → OpenPromise keys frame o → (now o ≡ take (bodyEnd (keys .bits) (now frame)) (now frame)) × (ptr o ≡ ptr frame)

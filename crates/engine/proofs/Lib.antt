@@ -1,3 +1,4 @@
+pub mod Refuted
 pub mod Room
 pub mod Together
 pub mod Walking

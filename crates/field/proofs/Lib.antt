@@ -1,3 +1,4 @@
 pub mod Inverse
 pub mod Linear
+pub mod Refuted
 pub mod Table

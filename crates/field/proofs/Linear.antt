@@ -1,11 +1,11 @@
 -- xtime is linear over exclusive or, and the products of MixColumns are made of it.
 -- Assumes nothing.
 use mathlib.Core.Path.{_≡_, refl, sym, ap, ap₂, _∙_}
-use Prim.Native.Nat.{ℕ, zero, suc, _*_, _/_, _%_, _<_}
+use Prim.Native.Nat.{ℕ, _*_, _/_, _%_, _<_}
 use native.Mathlib.Omega.{arith}
 use lib.Bits.{bitXor, xor-lt, xor-shr, xor-mod}
 use Rattle.laws.proofs.Agree.{agreed}
-use Rattle.laws.proofs.Xor.{xor-assoc, xor-cross, xor-twice}
+use Rattle.laws.proofs.Xor.{of-digits, xor-assoc, xor-cross, xor-twice}
 use Rattle.field.specs.Field.{_⊕_, xtime, mulDigits, mul}
 
 -- the seven low digits, moved up
@@ -26,11 +26,7 @@ moved-xor a b = ap (λ (x : ℕ). x * 2) (xor-mod a b 7) ∙ xor-twice (a % 128)
 
 -- of two digits
 top-xor : (h k : ℕ) → h < 2 → k < 2 → (h ⊕ k) * 0x1b ≡ (h * 0x1b) ⊕ (k * 0x1b)
-top-xor zero k hh hk = refl
-top-xor (suc zero) zero hh hk = refl
-top-xor (suc zero) (suc zero) hh hk = refl
-top-xor (suc zero) (suc (suc k)) hh hk = absurd (omega arith)
-top-xor (suc (suc h)) k hh hk = absurd (omega arith)
+top-xor = of-digits (λ h k. (h ⊕ k) * 0x1b ≡ (h * 0x1b) ⊕ (k * 0x1b)) refl refl refl refl
 
 reduced-xor : (a b : ℕ) → a < 256 → b < 256 → reduced (a ⊕ b) ≡ reduced a ⊕ reduced b
 unfolding reduced

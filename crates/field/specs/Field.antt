@@ -1,4 +1,5 @@
 -- GF(2^8) of FIPS 197, section 4. A byte is a polynomial of degree below 8 over GF(2), binary digit i its coefficient of x^i: 3.2, (3.1).
+-- Sections, equations and figures of FIPS 197 are those of its edition of 26 November 2001, here and in the crates above.
 -- Assumes nothing.
 use Prim.Native.Nat.{ℕ, zero, suc, _*_, _/_, _%_}
 use lib.Dec.{ltb}

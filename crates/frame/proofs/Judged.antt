@@ -8,7 +8,7 @@ use Prim.Native.Nat.{ℕ}
 use native.Mathlib.Omega.{arith}
 use lib.Dec.{eqb}
 use lib.ListN.{length}
-use borrow.Author.Tests.{eqb-true, eqb-false}
+use Rattle.laws.proofs.Cases.{none-or-some}
 use Rattle.laws.specs.Pick.{pick}
 use Rattle.block.specs.Bits.{bits}
 use Rattle.pcmac.specs.Tagver.{accepted}
@@ -82,10 +82,6 @@ pub record Accepted (k : KeySet) (f : List ℕ) : Type 0 where
   pub tag : tagAccepted k f ≡ true
   pub body : frameAnswer k f .body ≡ bodyLength k f
 
--- one of the numbers that a verdict may have
-abbrev pub VerdictNumber : ℕ → Type 0
-VerdictNumber n = (n ≡ 0) ⊎ (n ≡ 1) ⊎ (n ≡ 2) ⊎ (n ≡ 7) ⊎ (n ≡ 8)
-
 -- a choice between 0 and 7
 pick-none : (t : Bool) → pick {A = ℕ} t 0 7 ≡ 0 → t ≡ true
 pick-none true e = refl
@@ -98,13 +94,9 @@ pick-seven false e = refl
 module _ (k : KeySet) (f : List ℕ) where
   -- either there is a fault, or the tag was checked
   pub verdict-cases : Faulty k f ⊎ Checked k f (tagAccepted k f)
-  verdict-cases = by (eqb (frameNumber k (length f)) 0) refl
-    where
-      by : (t : Bool) → eqb (frameNumber k (length f)) 0 ≡ t → Faulty k f ⊎ Checked k f (tagAccepted k f)
-      by true e = inr (checked k f (eqb-true _ _ e))
-      by false e = inl (faulty k f (eqb-false _ _ e))
+  verdict-cases = ⊎-elim (λ z. inr (checked k f z)) (λ h. inl (faulty k f h)) (none-or-some (frameNumber k (length f)))
 
-  -- number 0 tells that it is accepted, and is what an accepted frame has
+  -- number 0 tells that it is accepted
   pub is-accepted : frameAnswer k f .number ≡ 0 → Accepted k f
   is-accepted e = ⊎-elim (λ u. absurd (u .fault (sym (u .number) ∙ e))) by verdict-cases
     where
@@ -112,9 +104,6 @@ module _ (k : KeySet) (f : List ℕ) where
       by c =
           let t = pick-none (tagAccepted k f) (sym (c .number) ∙ e) in
           record { none = c .none; tag = t; body = checked-by k f true t (c .none) .body }
-
-  pub accepted-is : frameNumber k (length f) ≡ 0 → tagAccepted k f ≡ true → frameAnswer k f .number ≡ 0
-  accepted-is z t = checked-by k f true t z .number
 
   -- number 7 tells that the tag differs, and is what a frame has whose tag differs
   pub is-differing : frameAnswer k f .number ≡ 7 → Checked k f false
@@ -130,31 +119,7 @@ module _ (k : KeySet) (f : List ℕ) where
   pub differing-is : frameNumber k (length f) ≡ 0 → tagAccepted k f ≡ false → frameAnswer k f .number ≡ 7
   differing-is z t = checked-by k f false t z .number
 
-  -- the numbers that there are
-  pub verdict-numbers : VerdictNumber (frameAnswer k f .number)
-  verdict-numbers = ⊎-elim by-fault (λ c. by-check (tagAccepted k f) (c .number)) verdict-cases
-    where
-      by-fault : Faulty k f → VerdictNumber (frameAnswer k f .number)
-      by-fault u =
-          let e = u .number in
-          ⊎-elim (λ z. inl (e ∙ z))
-          (⊎-elim (λ z. inr (inl (e ∙ z))) (⊎-elim (λ z. inr (inr (inl (e ∙ z)))) (λ z. inr (inr (inr (inr (e ∙ z)))))))
-          (number-cases k (length f))
-
-      by-check : (t : Bool) → frameAnswer k f .number ≡ pick t 0 7 → VerdictNumber (frameAnswer k f .number)
-      by-check true e = inl e
-      by-check false e = inr (inr (inr (inl e)))
-
-  -- a refusal has no body
-  pub refused-body : (frameAnswer k f .number ≡ 0 → ⊥) → frameAnswer k f .body ≡ 0
-  refused-body h = ⊎-elim (λ u. u .body) (λ c. by (tagAccepted k f) (c .number) (c .body)) verdict-cases
-    where
-      by : (t : Bool) → frameAnswer k f .number ≡ pick t 0 7 → frameAnswer k f .body ≡ pick t (bodyLength k f) 0
-          → frameAnswer k f .body ≡ 0
-      by true e b = absurd (h e)
-      by false e b = b
-
-  -- and, but where the tag differs, no counts
+  -- a refusal has no counts and no body, but where the tag differs
   pub refused-zeros : (frameAnswer k f .number ≡ 0 → ⊥) → (frameAnswer k f .number ≡ 7 → ⊥)
       → frameAnswer k f ≡ refusedFrame (frameAnswer k f .number)
   refused-zeros h s =

@@ -42,16 +42,16 @@ module _ (k : KeySet) (f : List ℕ) (h : frameAnswer k f .number ≡ 0 → ⊥)
 
 -- the same by a verdict that was handed back: of an accepted frame the body is its first bytes, as many as the verdict says
 module _ (k : KeySet) (f : List ℕ) {v : FrameAnswer} (e : v ≡ frameAnswer k f) where
-  number-is : v .number ≡ frameAnswer k f .number
+  pub number-is : v .number ≡ frameAnswer k f .number
   number-is = ap (λ (r : FrameAnswer). r .number) e
 
-  body-is : v .number ≡ 0 → v .body ≡ bodyLength k f
+  pub body-is : v .number ≡ 0 → v .body ≡ bodyLength k f
   body-is z = ap (λ (r : FrameAnswer). r .body) e ∙ is-accepted k f (sym number-is ∙ z) .body
 
   pub body-within : v .number ≡ 0 → v .body ≤ length f
   body-within z = omega (arith, body-is z)
 
-  front-is : v .number ≡ 0 → take (v .body) f ≡ bodyOf k f
+  pub front-is : v .number ≡ 0 → take (v .body) f ≡ bodyOf k f
   unfolding bodyOf
   front-is z = ap (λ (n : ℕ). take n f) (body-is z)
 

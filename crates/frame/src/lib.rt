@@ -1,5 +1,5 @@
 // A frame is a body, and behind it a tag; the order and the tag length come from the receiver's key
-// set. It may have 255 bytes, and at least one of them is the body's.
+// set. It has at most 255 bytes, and at least one of them is the body's.
 //
 //     let verdict = frame::judge(keys, &frame);            // number 0: accepted
 //     let body = frame::open(keys, &frame);                // that part of the frame, or no bytes

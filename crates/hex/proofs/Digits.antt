@@ -88,16 +88,6 @@ pair-some (Value h) (Value l) e = (refl, refl)
 pair-some (Value h) Bad e = absurd (let z : _≡_ {A = ℕ} 0 1 = cc in omega arith)
 pair-some Bad l e = absurd (let z : _≡_ {A = ℕ} 0 1 = cc in omega arith)
 
--- and it is a byte
-pub pair-small : (high low : ℕ) → readValue (pairOf high low) < 256
-unfolding halves readValue
-pair-small high low = by (digitOf high) (digitOf low) refl refl
-  where
-    by : (h l : Read) → digitOf high ≡ h → digitOf low ≡ l → readValue (halves h l) < 256
-    by (Value h) (Value l) e f = omega (arith, half-small high e, half-small low f)
-    by (Value h) Bad e f = omega arith
-    by Bad l e f = omega arith
-
 -- the value is the one that was found
 pub pair-value : {r : Read} {v : ℕ} → r ≡ Value v → v ≡ readValue r
 unfolding readValue

@@ -1,6 +1,7 @@
--- Wrong outcomes that the promises do not permit, where the code of a wrong program would have another shape.
+-- Wrong outcomes that the promises do not permit.
 -- Assumes nothing.
 use mathlib.Core.Path.{_≡_, refl, ap, sym, _∙_}
+use mathlib.Core.Bool.{false}
 use mathlib.Core.List.{List, [], _∷_, _++_}
 use Prim.Native.Nat.{ℕ, _+_, _-_, _/_, _%_, _≤_, _<_}
 use native.Mathlib.Omega.{arith}
@@ -10,13 +11,14 @@ use lib.Seq.{getD-append-add, getD-drop}
 use borrow.Author.Tests.{le-leb, lt-leb, eqb-true}
 use Rattle.laws.proofs.Agree.{table-at}
 use Rattle.laws.proofs.Cases.{both-holds}
+use Rattle.laws.proofs.Fault.{unless-fails}
 use Rattle.hex.specs.declared.LineAnswer.{LineAnswer}
 use Rattle.hex.specs.declared.Read.the-variants.{Value, Bad}
 use Rattle.hex.specs.Digit.{digitOf, halves, readValue}
 use Rattle.hex.specs.Line.{allDigits, isHex, byteAt, decoded}
 use Rattle.hex.specs.Promise.{DigitPromise, DecodePromise}
 use Rattle.hex.proofs.Digits.{digit-none}
-use Rattle.hex.proofs.Outcome.{decoded-length, number-size}
+use Rattle.hex.proofs.Outcome.{decoded-length, number-size, number-length, number-rest}
 use Rattle.hex.proofs.Told.{number-is, is-written, is-unwritten}
 
 -- G or a character behind it, as the lower case letters are, that has a value
@@ -28,6 +30,11 @@ letter-beyond c v h p =
     let z : _≡_ {A = ℕ} 0 1 = cc in
     omega arith
 
+-- A that stands for another number than ten
+pub letter-one-more : (v : ℕ) → (v ≡ 10 → ⊥) → DigitPromise 65 (Value v) → ⊥
+unfolding digitOf readValue
+letter-one-more v h p = h (ap readValue p)
+
 module _ (line space : List ℕ) (r : LineAnswer) (after : List ℕ) (p : DecodePromise line space r after) where
   -- a refusal that has written
   pub refusal-writes : (r .number ≡ 0 → ⊥) → (after ≡ space → ⊥) → ⊥
@@ -37,7 +44,17 @@ module _ (line space : List ℕ) (r : LineAnswer) (after : List ℕ) (p : Decode
   pub refusal-counts : (r .number ≡ 0 → ⊥) → 1 ≤ r .written → ⊥
   refusal-counts h w = omega (arith, is-unwritten line space p h .none)
 
-  -- a small space that is refused for another fault, of the line
+  -- a line of more than 510 characters that is taken, or refused for another fault
+  pub long-line-taken : 255 ≤ length space → 510 < length line → (r .number ≡ 8 → ⊥) → ⊥
+  long-line-taken room h w = w (number-is line space p ∙ sym (number-length (length space) line room h))
+
+  -- one that is no hexadecimal, refused for its length
+  pub not-hex-is-length : 255 ≤ length space → length line ≤ 510 → isHex line ≡ false → r .number ≡ 8 → ⊥
+  not-hex-is-length room h x z =
+      let n = number-rest (length space) line room h (unless-fails 9 x) in
+      omega (arith, number-is line space p)
+
+  -- a small space that is taken, or refused for another fault, of the line
   pub line-before-space : length space < 255 → (r .number ≡ 3 → ⊥) → ⊥
   line-before-space h w = w (number-is line space p ∙ sym (number-size (length space) line h))
 

@@ -1,42 +1,23 @@
 -- What decoding a line tells its caller: which numbers are given, what 0 says, and what then stands in the space.
 -- Assumes nothing.
-use mathlib.Core.Path.{_≡_, refl, ap, sym, subst, _∙_}
+use mathlib.Core.Path.{_≡_, refl, ap, sym, _∙_}
+use mathlib.Core.Logic.{⊎-elim}
 use mathlib.Core.Bool.{Bool, true, false}
-use mathlib.Core.Logic.{_⊎_, inl, inr, ⊎-elim}
-use mathlib.Core.List.{List, [], _∷_, _++_}
-use Prim.Native.Nat.{ℕ, _/_, _≤_, _<_}
+use mathlib.Core.List.{List, _++_}
+use Prim.Native.Nat.{ℕ, _/_, _≤_}
 use native.Mathlib.Omega.{arith}
 use lib.Dec.{eqb, leb}
-use lib.ListN.{length, getD, take, drop, length-append, length-drop, List·getD-eq-default}
+use lib.ListN.{length, take, drop, length-append, length-drop}
 use lib.Seq.{take-append-seam}
-use borrow.Author.Tests.{le-leb, leb-true, eq-eqb, ne-eqb, eqb-true, eqb-false}
-use mir.Syntax.{w8}
-use mir.Val.{Fits}
-use Rattle.laws.specs.Fault.{unless, firstFault}
+use borrow.Author.Tests.{leb-true, eq-eqb, ne-eqb, eqb-true}
+use Rattle.laws.proofs.Cases.{none-or-some}
+use Rattle.laws.specs.Fault.{unless}
 use Rattle.laws.specs.Pick.{pick}
-use Rattle.laws.proofs.Agree.{table-at}
-use Rattle.laws.proofs.Bytes.{Bytes}
-use Rattle.laws.proofs.Cases.{below-or-not}
-use Rattle.laws.proofs.Fault.{unless-none, unless-holds, none-of-three}
+use Rattle.laws.proofs.Fault.{unless-none, none-of-three}
 use Rattle.hex.specs.declared.LineAnswer.{LineAnswer}
-use Rattle.hex.specs.Line.{isHex, byteAt, decoded, decodeNumber, refusedLine, decodeAnswer, decodeSpace}
+use Rattle.hex.specs.Line.{isHex, decoded, decodeNumber, refusedLine, decodeAnswer, decodeSpace}
 use Rattle.hex.specs.Promise.{DecodePromise}
-use Rattle.hex.proofs.Digits.{pair-small}
-use Rattle.hex.proofs.Outcome.{decoded-length, number-size, number-rest}
-
--- the bytes of a line are bytes
-pub decoded-bytes : (line : List ℕ) → Bytes (decoded line)
-unfolding decoded
-decoded-bytes line j = ⊎-elim inside beyond (below-or-not j (length line / 2))
-  where
-    inside : j < length line / 2 → Fits w8 (getD (decoded line) j 0)
-    inside h =
-        subst (λ (x : ℕ). Fits w8 x) (sym (table-at (byteAt line) (length line / 2) j h)) (record { fits = pair-small _ _ })
-
-    beyond : length line / 2 ≤ j → Fits w8 (getD (decoded line) j 0)
-    beyond h =
-        let end : length (decoded line) ≤ j = rw (decoded-length line) h in
-        subst (λ (x : ℕ). Fits w8 x) (sym (List·getD-eq-default (decoded line) 0 end)) (record { fits = omega arith })
+use Rattle.hex.proofs.Outcome.{decoded-length}
 
 -- a line that may be decoded, into a space of n bytes
 pub record Decodes (n : ℕ) (line : List ℕ) : Type 0 where
@@ -45,7 +26,7 @@ pub record Decodes (n : ℕ) (line : List ℕ) : Type 0 where
   pub hex : isHex line ≡ true
 
 module _ (n : ℕ) (line : List ℕ) where
-  -- what number 0 says of it, and what gives 0
+  -- what number 0 says of it
   pub decodes : decodeNumber n line ≡ 0 → Decodes n line
   unfolding decodeNumber
   decodes e =
@@ -55,26 +36,6 @@ module _ (n : ℕ) (line : List ℕ) where
         fits = leb-true (length line) 510 (unless-none 7 (leb (length line) 510) (f .1));
         hex = unless-none 8 (isHex line) (f .2);
       }
-
-  pub decodes-none : Decodes n line → decodeNumber n line ≡ 0
-  decodes-none d = sym (number-rest n line (d .room) (d .fits) (unless-holds 9 (d .hex)))
-
-  -- the numbers that are given where the space has room: 0, 8 and 9
-  pub numbers-roomy : 255 ≤ n → (decodeNumber n line ≡ 0) ⊎ ((decodeNumber n line ≡ 8) ⊎ (decodeNumber n line ≡ 9))
-  unfolding decodeNumber unless firstFault
-  numbers-roomy room = rw (le-leb 255 n room) (by (leb (length line) 510) (isHex line))
-    where
-      given : ℕ → Type 0
-      given k = (k ≡ 0) ⊎ ((k ≡ 8) ⊎ (k ≡ 9))
-
-      by : (s t : Bool) → given (firstFault (unless s 8 ∷ unless t 9 ∷ []))
-      by true true = inl refl
-      by true false = inr (inr refl)
-      by false t = inr (inl refl)
-
-  -- and else also 3, and no other
-  pub numbers-given : (decodeNumber n line ≡ 3) ⊎ ((decodeNumber n line ≡ 0) ⊎ ((decodeNumber n line ≡ 8) ⊎ (decodeNumber n line ≡ 9)))
-  numbers-given = ⊎-elim (λ h. inl (sym (number-size n line h))) (λ h. inr (numbers-roomy h)) (below-or-not n 255)
 
 -- the outcome where the number is 0: so many bytes at the front of the space are the line's, and behind them it is as it was
 pub record Written (line space : List ℕ) (r : LineAnswer) (after : List ℕ) : Type 0 where
@@ -127,21 +88,16 @@ module _ (line space : List ℕ) {r : LineAnswer} {after : List ℕ} (p : Decode
 
   -- in any case at most 255 bytes are counted, and the space is as long as it was
   pub written-most : r .written ≤ 255
-  written-most = by (eqb (r .number) 0) refl
-    where
-      by : (t : Bool) → eqb (r .number) 0 ≡ t → r .written ≤ 255
-      by true e =
-          let w = is-written (eqb-true (r .number) 0 e) in
-          omega (arith, w .count, w .may .fits)
-      by false e = omega (arith, is-unwritten (eqb-false (r .number) 0 e) .none)
+  written-most =
+      ⊎-elim (λ z. let w = is-written z in omega (arith, w .count, w .may .fits)) (λ h. omega (arith, is-unwritten h .none))
+      (none-or-some (r .number))
 
   pub after-length : length after ≡ length space
-  after-length = by (eqb (r .number) 0) refl
+  after-length = ⊎-elim written (λ h. ap length (is-unwritten h .left)) (none-or-some (r .number))
     where
-      by : (t : Bool) → eqb (r .number) 0 ≡ t → length after ≡ length space
-      by true e =
-          let w = is-written (eqb-true (r .number) 0 e) in
+      written : r .number ≡ 0 → length after ≡ length space
+      written z =
+          let w = is-written z in
           let n = decoded-length line in
           ap length (w .laid) ∙ length-append (decoded line) (drop (length (decoded line)) space)
           ∙ omega (arith, length-drop (length (decoded line)) space, w .may .fits, w .may .room)
-      by false e = ap length (is-unwritten (eqb-false (r .number) 0 e) .left)

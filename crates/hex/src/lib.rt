@@ -36,7 +36,7 @@ pub struct LineAnswer {
     pub written: usize,
 }
 
-// The bytes of a line whose every pair is good, at the front of a space of the largest size.
+// Whether every pair of a line is good; and where so, its bytes, at the front of a space of the largest size.
 struct Parsed {
     good: bool,
     bytes: [u8; 255],

@@ -71,7 +71,7 @@ pub formed-short : (d : ℕ) (s : Stream) → Mostly d s → s .total ≤ 16 →
 formed-short d s f h = sym (formed-most d s f ∙ rw (le-leb (s .total) 16 h))
 
 -- a fact that fails fails the test
-pub not-formed : (d : ℕ) (s : Stream) → (Mostly d s → ⊥) → false ≡ formed d s
+not-formed : (d : ℕ) (s : Stream) → (Mostly d s → ⊥) → false ≡ formed d s
 not-formed d s n = by (formed d s) refl
   where
     by : (t : Bool) → formed d s ≡ t → false ≡ formed d s

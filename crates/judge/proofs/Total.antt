@@ -1,11 +1,11 @@
 -- What a total tells: the blocks settled, the bytes held, and the counts by closed formulas.
 -- Assumes nothing.
-use mathlib.Core.Path.{_≡_, refl, sym}
-use mathlib.Core.Bool.{Bool, true, false}
+use mathlib.Core.Path.{_≡_, sym}
+use mathlib.Core.Logic.{⊎-elim}
 use Prim.Native.Nat.{ℕ, _+_, _-_, _*_, _/_, _%_, _≤_}
 use native.Mathlib.Omega.{arith}
-use lib.Dec.{eqb}
-use borrow.Author.Tests.{eq-eqb, ne-eqb, eqb-true, eqb-false}
+use borrow.Author.Tests.{eq-eqb, ne-eqb}
+use Rattle.laws.proofs.Cases.{none-or-some}
 use Rattle.laws.proofs.Up.{up-is, up-most}
 use Rattle.block.specs.Block.{blocks}
 use Rattle.chain.specs.Count.{wholeFor}
@@ -32,15 +32,15 @@ pub record Total (n : ℕ) : Type 0 where
   pub some : 1 ≤ n → 1 ≤ heldFor n
 
 pub total : (n : ℕ) → Total n
-total n = by (eqb n 0) refl
+total n = ⊎-elim none some (none-or-some n)
   where
-    by : (t : Bool) → eqb n 0 ≡ t → Total n
-    by true e =
-        let z = eqb-true n 0 e in
+    none : n ≡ 0 → Total n
+    none z =
         let h = held-none n z in
         record { sum = omega (arith, settled-is n, h); held-most = omega (arith, h); some = λ l. omega (arith, h) }
-    by false e =
-        let z = eqb-false n 0 e in
+
+    some : (n ≡ 0 → ⊥) → Total n
+    some z =
         let h = held-some n z in
         let p : 1 ≤ n = omega arith in
         record { sum = omega (arith, settled-is n, h); held-most = omega (arith, h); some = λ l. omega (arith, h) }

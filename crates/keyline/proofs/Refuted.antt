@@ -1,4 +1,4 @@
--- Wrong outcomes that the promise does not permit, where the code of a wrong program would have another shape.
+-- Wrong outcomes that the promise does not permit.
 -- Assumes nothing.
 use mathlib.Core.Path.{_≡_, refl, ap, sym, _∙_}
 use mathlib.Core.List.{List}
@@ -10,7 +10,7 @@ use Rattle.keys.specs.Answer.{refusedKeys}
 use Rattle.keyline.specs.Promise.{ReadPromise}
 use Rattle.keyline.proofs.Answered.{number-length, read-refused}
 
--- a line of another length that is refused for its characters, or for anything but its length, or taken
+-- a line of another length, a longer one as any, that is refused for its characters, or for anything but its length, or taken
 pub length-not-first : (line : List ℕ) (r : KeyAnswer) → (length line ≡ 68 → ⊥) → (r .number ≡ 8 → ⊥) → ReadPromise line r → ⊥
 unfolding refusedKeys
 length-not-first line r h w p =

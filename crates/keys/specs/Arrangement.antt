@@ -18,13 +18,13 @@ use Rattle.pcmac.specs.Keysch.{Subkeys, U, X}
 abbrev pub placeAt : List ℕ → ℕ → Block
 placeAt subkeys n = table (λ j. getD subkeys (16 * n + j) 0) 16
 
--- the accessor of U_w^(j), for w from 1 to 5 and j from 1 to 3: what stands at its place, which is zeros in a key set of a lower order.
--- There is no other such place, and it answers zeros
+-- the accessor of U_w^(j), for w from 1 to 5 and j from 1 to 3: what stands at its place, which the key call leaves zero beyond
+-- its order. There is no other such place, and it answers zeros
 unfoldable pub uPart : List ℕ → ℕ → ℕ → Block
 uPart subkeys w j = pick (both (upTo highestOrder w) (upTo 3 j)) (placeAt subkeys (3 * (w - 1) + (j - 1))) zeros
 
--- the accessor of K_j^xor, for j from 1 to 4: what stands at its place, which is zeros in a key set of a lower order. There is no other
--- such place, and it answers zeros
+-- the accessor of K_j^xor, for j from 1 to 4: what stands at its place, which the key call leaves zero beyond its order. There is no
+-- other such place, and it answers zeros
 unfoldable pub xKey : List ℕ → ℕ → Block
 xKey subkeys j = pick (upTo (highestOrder - 1) j) (placeAt subkeys (15 + (j - 1))) zeros
 

@@ -23,25 +23,13 @@ fn place_at(subkeys: &[u8; 304], n: usize) -> [u8; 16]
     requires { ⌜ n < 19 ⌝ }
     ensures { λ r. ⌜ r ≡ placeAt (now (subkeys .entry)) n ⌝ }
 {
-    let o = 16 * n;
-    [
-        subkeys[o + 0],
-        subkeys[o + 1],
-        subkeys[o + 2],
-        subkeys[o + 3],
-        subkeys[o + 4],
-        subkeys[o + 5],
-        subkeys[o + 6],
-        subkeys[o + 7],
-        subkeys[o + 8],
-        subkeys[o + 9],
-        subkeys[o + 10],
-        subkeys[o + 11],
-        subkeys[o + 12],
-        subkeys[o + 13],
-        subkeys[o + 14],
-        subkeys[o + 15],
-    ]
+    let mut r = [0u8; 16];
+    let mut j: usize = 0;
+    while j < 16 {
+        r[j] = subkeys[16 * n + j];
+        j += 1;
+    }
+    r
 }
 
 // U_w^(j).
@@ -127,6 +115,6 @@ pub(crate) fn made(round: &[u8; 176], l: [u8; 16], d: u8) -> Taken
         subkeys: [0; 304],
         steps: 0,
     };
-    let parts = run(round, l, none, 0, 0, 3 * d);
+    let parts = run(round, l, none, PARTS, 0, 3 * d);
     run(round, l, parts, AUXES, 3 * d, d - 1)
 }

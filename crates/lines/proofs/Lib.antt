@@ -1,4 +1,5 @@
 pub mod Gathering
 pub mod Plain
 pub mod Reader
+pub mod Refuted
 pub mod Tidied

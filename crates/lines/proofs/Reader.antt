@@ -34,7 +34,7 @@ kept n a b = ⊎-elim short long (below-or-not (length a) n)
         let e : length (take n a) ≡ n = length-take-le n a h in
         take-append-le n (take n a) b (omega arith) ∙ take-take n n a (omega arith) ∙ sym (take-append-le n a b h)
 
-pub kept-append : (a b : List ℕ) → keptLine (keptLine a ++ b) ≡ keptLine (a ++ b)
+kept-append : (a b : List ℕ) → keptLine (keptLine a ++ b) ≡ keptLine (a ++ b)
 kept-append a b = kept keptChars a b
 
 pub kept-most : (l : List ℕ) → length (keptLine l) ≤ keptChars
@@ -47,18 +47,14 @@ module _ {A : Type 0} (turn : A → List ℕ → A) where
   reads-append r [] q = refl
   reads-append r (c ∷ p) q = reads-append (next turn r c) p q
 
-  -- at a line feed, and at another character
-  pub next-feed : (r : Reader A) → next turn r lineFeed ≡ record { session = turn (r .session) (r .line); line = [] }
-  unfolding next
-  next-feed r = refl
-
-  pub next-more : (r : Reader A) (c : ℕ) → eqb c lineFeed ≡ false
+  -- at a character that is no line feed
+  next-more : (r : Reader A) (c : ℕ) → eqb c lineFeed ≡ false
       → next turn r c ≡ record { session = r .session; line = keptLine (r .line ++ (c ∷ [])) }
   unfolding next
   next-more r c e = rw e
 
   -- at a line feed with others behind it
-  pub reads-feed : (r : Reader A) (p : List ℕ)
+  reads-feed : (r : Reader A) (p : List ℕ)
       → reads turn r (lineFeed ∷ p) ≡ reads turn (record { session = turn (r .session) (r .line); line = [] }) p
   unfolding reads next
   reads-feed r p = refl
@@ -94,11 +90,8 @@ module _ {A : Type 0} (turn : A → List ℕ → A) where
   reads-kept r (c ∷ p) h = reads-kept (next turn r c) p (next-kept r c)
 
 module _ {A : Type 0} (tell : A → List ℕ → List ℕ) where
-  pub says-feed : (r : Reader A) → says tell r lineFeed ≡ tell (r .session) (r .line)
-  unfolding says
-  says-feed r = refl
-
-  pub says-more : (r : Reader A) (c : ℕ) → eqb c lineFeed ≡ false → says tell r c ≡ []
+  -- nothing is said at a character that is no line feed
+  says-more : (r : Reader A) (c : ℕ) → eqb c lineFeed ≡ false → says tell r c ≡ []
   unfolding says
   says-more r c e = rw e
 
@@ -130,7 +123,7 @@ module _ {A : Type 0} (turn : A → List ℕ → A) (tell : A → List ℕ → L
   takes-none width r room [] h = refl
   takes-none width r room (c ∷ p) h = rw (lt-ltb room width h)
 
-  pub takes-next : (width : ℕ) (r : Reader A) (room c : ℕ) (p : List ℕ) → width ≤ room
+  takes-next : (width : ℕ) (r : Reader A) (room c : ℕ) (p : List ℕ) → width ≤ room
       → takes turn tell width r room (c ∷ p) ≡ 1 + takes turn tell width (next turn r c) (room - length (says tell r c)) p
   unfolding takes
   takes-next width r room c p h = rw (le-ltb room width h)
@@ -173,7 +166,7 @@ module _
     (width : ℕ)
     (fits : (a : A) (l : List ℕ) → length (tell a l) ≤ width)
   where
-    pub says-most : (r : Reader A) (c : ℕ) → length (says tell r c) ≤ width
+    says-most : (r : Reader A) (c : ℕ) → length (says tell r c) ≤ width
     unfolding says
     says-most r c = by (eqb c lineFeed) refl
       where
@@ -268,7 +261,7 @@ module _
             ∙ i r′ (l ++ (c ∷ [])) k g
             ∙ ap (λ (x : List ℕ). answers turn tell (r .session) (lines x)) (append-snoc l c p)
 
-    pub said-whole : (r : Reader A) (l p : List ℕ) → r .line ≡ keptLine l → plain l ≡ l
+    said-whole : (r : Reader A) (l p : List ℕ) → r .line ≡ keptLine l → plain l ≡ l
         → said turn tell r p ++ said turn tell (reads turn r p) (closing (reads turn r p)) ≡ answers turn tell (r .session) (lines (l ++ p))
     unfolding ends
     said-whole r l p e h = whole r l p e h

@@ -6,24 +6,25 @@
 //     // g.line has g.count characters; a line feed stands at g.at, or the part has ended there
 ghost use Rattle.lines.specs.Promise.{TidyPromise, HeldPromise, GatherPromise};
 
-const LINE_FEED: u8 = 10;
+// The character that ends a line.
+pub const LINE_FEED: u8 = 10;
 
 // As many characters are kept as make a line too long.
-const KEPT: usize = 511;
+pub const KEPT: usize = 511;
 
 // The line so far, with zeros behind its characters; how many they are; and where reading stopped: at a
 // line feed, or at the end of the part.
 pub struct Gathered {
-    pub line: [u8; 511],
+    pub line: [u8; KEPT],
     pub count: usize,
     pub at: usize,
 }
 
 // The first characters of a line, with zeros behind them.
-pub fn tidy(line: [u8; 511], count: usize) -> [u8; 511]
+pub fn tidy(line: [u8; KEPT], count: usize) -> [u8; KEPT]
     ensures { λ r. ⌜ TidyPromise line count r ⌝ }
 {
-    let mut r = [0u8; 511];
+    let mut r = [0u8; KEPT];
     let mut i: usize = 0;
     while i < KEPT {
         if i >= count {
@@ -43,7 +44,7 @@ pub fn held(count: usize) -> usize
 }
 
 // More characters of a line that is begun, from a place in a part on, up to the next line feed.
-pub fn gather(line: [u8; 511], count: usize, part: &[u8], at: usize) -> Gathered
+pub fn gather(line: [u8; KEPT], count: usize, part: &[u8], at: usize) -> Gathered
     ensures { λ r. ⌜ GatherPromise line count (now (part .entry)) at r ⌝ }
 {
     let mut r = tidy(line, count);

@@ -1,16 +1,17 @@
 -- What number 0 tells of a call over a whole message, and what it takes.
 -- Assumes nothing.
-use mathlib.Core.Path.{_≡_, sym}
+use mathlib.Core.Path.{_≡_, refl, sym}
 use mathlib.Core.Bool.{false}
 use Prim.Native.Nat.{ℕ, _≤_}
-use Rattle.laws.proofs.Fault.{none-of-four, four-none}
+use native.Mathlib.Omega.{arith}
+use Rattle.laws.proofs.Fault.{fault-found, fault-pass, none-of-four, four-none}
 use Rattle.pcmac.specs.Limits.{messageLimit}
 use Rattle.keys.specs.declared.KeySet.{KeySet}
 use Rattle.keys.specs.SetNumber.{setNumber}
 use Rattle.keys.proofs.SetNumber.{Taken, set-taken, taken-set}
 use Rattle.tag.specs.Tag.{tagBytes}
 use Rattle.judge.specs.Fault.{sizeNumber, lengthNumber, emptyNumber}
-use Rattle.judge.proofs.Faultless.{size-fits, fits-size, length-fits, fits-length, empty-some, some-empty}
+use Rattle.judge.proofs.Faultless.{size-fits, fits-size, other-size, length-fits, fits-length, empty-some, some-empty}
 use Rattle.message.specs.Answer.{messageNumber}
 
 -- a message of m bytes may be made a tag of, in a slice of n bytes
@@ -36,3 +37,8 @@ unfolding messageNumber
 tags-none k m n t =
     four-none (setNumber k) (sizeNumber (k .bits) n) (lengthNumber m) (emptyNumber false m) (sym (taken-set k (t .set)))
     (sym (fits-size (k .bits) n (t .size))) (sym (fits-length m (t .fits))) (sym (some-empty m (t .some)))
+
+-- a slice of another size gives 3, whatever the message is
+pub other-slice : (k : KeySet) (m n : ℕ) → 0 ≡ setNumber k → (n ≡ tagBytes (k .bits) → ⊥) → 3 ≡ messageNumber k m n
+unfolding messageNumber
+other-slice k m n z h = fault-pass _ z refl (fault-found _ (other-size (k .bits) n h) (λ q. omega arith))

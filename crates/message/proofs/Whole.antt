@@ -23,9 +23,9 @@ use Rattle.keys.specs.KeysIn.{keysIn}
 use Rattle.engine.specs.Engine.{chainStep, walked, absorbed, sealedBy}
 use Rattle.engine.proofs.Room.{Room, room-roomy, absorbed-room}
 use Rattle.engine.proofs.Together.{engine-step}
-use Rattle.tag.proofs.Answered.{sealed-length, sealed-tagged}
+use Rattle.tag.specs.Inner.{Sealed}
+use Rattle.tag.proofs.Answered.{sealed-by}
 use Rattle.message.specs.Answer.{tagged}
-use Rattle.message.specs.Inner.{Sealed}
 
 -- where the last block begins
 pub last-at : (n : ℕ) → 16 * ((n - 1) / 16) ≡ 16 * (blocks n - 1)
@@ -78,16 +78,11 @@ fresh k d M e = rw e
 -- sealed from what the engine hands back, they are the message's tag and counts
 pub message-sealed : (k : KeySet) (M : List ℕ) {r c : Chain} {last : List ℕ} → 1 ≤ length M → length M ≤ messageLimit
     → r ≡ sealedBy (k .round) (k .full) (k .short) c last → c ≡ chained (keysIn k) (k .order) M
-    → last ≡ blockOf M (blocks (length M)) → Sealed k M r
+    → last ≡ blockOf M (blocks (length M)) → Sealed (k .bits) (tagged k M) r
 unfolding tagged taggen
 message-sealed k M some fits er ec el =
     let c = chained (keysIn k) (k .order) M in
     let last = blockOf M (blocks (length M)) in
     let e = er ∙ ap₂ (λ (x : Chain) (y : List ℕ). sealedBy (k .round) (k .full) (k .short) x y) ec el in
     let room = chained-room (keysIn k) (k .order) M fits in
-    record {
-      size = sealed-length k c last room e;
-      tag =
-          sealed-tagged k c last room (k .bits) (blocks (length M)) e (last-some M some) (last-most M)
-          (fresh (keysIn k) (k .order) M);
-    }
+    sealed-by k c last room (k .bits) (blocks (length M)) e (last-some M some) (last-most M) (fresh (keysIn k) (k .order) M)

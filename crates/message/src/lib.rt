@@ -5,9 +5,9 @@
 ghost use mathlib.Core.Path.{_≡_};
 ghost use Prim.Native.Nat.{_≤_};
 ghost use lib.ListN.{length};
-ghost use Rattle.message.specs.Answer.{messageNumber};
+ghost use Rattle.tag.specs.Inner.{Sealed};
+ghost use Rattle.message.specs.Answer.{messageNumber, tagged};
 ghost use Rattle.message.specs.Promise.{TagPromise, VerifyPromise};
-ghost use Rattle.message.specs.Inner.{Sealed};
 use chain::Chain;
 use keys::DONE;
 use keys::KeySet;
@@ -29,7 +29,7 @@ fn fault(keys: KeySet, m: usize, n: usize) -> u8
 // last.
 fn sealed(keys: KeySet, message: &[u8]) -> Chain
     requires { ⌜ (1 ≤ length (now message)) × (length (now message) ≤ 1048576) ⌝ }
-    ensures { λ r. ⌜ Sealed keys (now (message .entry)) r ⌝ }
+    ensures { λ r. ⌜ Sealed (keys .bits) (tagged keys (now (message .entry))) r ⌝ }
 {
     let round = keys.round;
     let subkeys = keys.subkeys;

@@ -1,4 +1,4 @@
--- TAGVER accepts exactly where the first p bits that were received are the tag's.
+-- TAGVER is 1 exactly where T is the tag; and the rule of acceptance accepts exactly where the first p bits that were received are.
 -- Assumes nothing.
 use mathlib.Core.Path.{_≡_, refl, ap, ap₂, _∙_}
 use mathlib.Core.Bool.{Bool, true, false}
@@ -30,13 +30,13 @@ unfolding same
 equal-same [] = refl
 equal-same (x ∷ a) = rw (eq-eqb x x refl) (equal-same a)
 
-holds : (t : Bool) → t ≡ true → T t
-holds t e = rw e tt
+holds : {t : Bool} → t ≡ true → T t
+holds e = rw e tt
 
 -- what is accepted has the tag's bits
 pub accepted-equal : (p : ℕ) (received tag : List ℕ) → accepted p received tag ≡ true → take p received ≡ tag
 unfolding accepted
-accepted-equal p received tag e = same-equal (take p received) tag (holds (same (take p received) tag) e)
+accepted-equal p received tag e = same-equal (take p received) tag (holds e)
 
 -- what has the tag's bits is accepted
 pub equal-accepted : (p : ℕ) (received tag : List ℕ) → take p received ≡ tag → accepted p received tag ≡ true
@@ -47,11 +47,12 @@ pick-one : (t : Bool) → pick {A = ℕ} t 1 0 ≡ 1 → t ≡ true
 pick-one true e = refl
 pick-one false e = absurd (omega arith)
 
+-- Algorithm 2.3: 1 says that T is T', and is what T' gets
 module _ (d p : ℕ) (K L : Block) (M T : List ℕ) where
-  pub tagver-equal : TAGVER d p K L M T ≡ 1 → take p T ≡ TAGGEN d p K L M
+  pub tagver-equal : TAGVER d p K L M T ≡ 1 → T ≡ TAGGEN d p K L M
   unfolding TAGVER
-  tagver-equal e = accepted-equal p T (TAGGEN d p K L M) (pick-one (accepted p T (TAGGEN d p K L M)) e)
+  tagver-equal e = same-equal T (TAGGEN d p K L M) (holds (pick-one (same T (TAGGEN d p K L M)) e))
 
-  pub equal-tagver : take p T ≡ TAGGEN d p K L M → TAGVER d p K L M T ≡ 1
+  pub equal-tagver : T ≡ TAGGEN d p K L M → TAGVER d p K L M T ≡ 1
   unfolding TAGVER
-  equal-tagver e = rw (equal-accepted p T (TAGGEN d p K L M) e)
+  equal-tagver e = ap (λ (x : List ℕ). pick (same x (TAGGEN d p K L M)) 1 0) e ∙ rw (equal-same (TAGGEN d p K L M))

@@ -1,7 +1,7 @@
 -- The tag of PC-MAC-AES: NEC's specification, section 2.5, Algorithm 2.2. p is the document's π. Where the prose of 2.5 differs, the
 -- algorithm decides: the cycle goes on for as long as there are blocks (the prose lists its functions for i = 1 to d), and the x_m of
--- the prose's formula is M_m. A message has at least one byte: the document leaves the empty one undefined (2.3, note 1), and what is
--- said here of it is used nowhere.
+-- the prose's formula is M_m. A message has at least one byte: the document leaves the empty one undefined (2.3, note 1), and no tag
+-- of it is used.
 -- Assumes nothing.
 use mathlib.Core.List.{List}
 use Prim.Native.Nat.{ℕ, _+_, _-_, _%_}

@@ -17,10 +17,11 @@ same [] (y ∷ b) = false
 same (x ∷ a) [] = false
 same (x ∷ a) (y ∷ b) = both (eqb x y) (same a b)
 
--- the rule of acceptance: the first p of the received bits are those of the tag, and no others are looked at
+-- Algorithm 2.3: TAGVER(d, p, K, L, M, T), 1 where T = T' for T' = TAGGEN(d, p, K, L, M), otherwise 0
+unfoldable pub TAGVER : ℕ → ℕ → Block → Block → List ℕ → List ℕ → ℕ
+TAGVER d p K L M T = pick (same T (TAGGEN d p K L M)) 1 0
+
+-- this library's rule of acceptance, for a tag that comes in whole bytes: its T is the first p of the received bits, and the spare bits
+-- behind them are not looked at
 unfoldable pub accepted : ℕ → List ℕ → List ℕ → Bool
 accepted p received tag = same (take p received) tag
-
--- Algorithm 2.3: TAGVER(d, p, K, L, M, T), 1 where T is accepted for T' = TAGGEN(d, p, K, L, M), otherwise 0
-unfoldable pub TAGVER : ℕ → ℕ → Block → Block → List ℕ → List ℕ → ℕ
-TAGVER d p K L M T = pick (accepted p T (TAGGEN d p K L M)) 1 0

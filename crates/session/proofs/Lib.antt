@@ -1,6 +1,7 @@
 pub mod Cutting
 pub mod Outcome
 pub mod Over
+pub mod Refuted
 pub mod States
 pub mod Stepping
 pub mod Telling

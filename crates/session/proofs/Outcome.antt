@@ -3,7 +3,7 @@
 use mathlib.Core.Path.{_≡_, ap, sym, _∙_}
 use mathlib.Core.Bool.{Bool, true, false}
 use mathlib.Core.List.{List, [], _++_}
-use Prim.Native.Nat.{ℕ, _-_, _*_, _≤_}
+use Prim.Native.Nat.{ℕ, _*_, _≤_}
 use native.Mathlib.Omega.{arith}
 use lib.Dec.{eqb}
 use lib.ListN.{length, take, drop, length-append, length-drop}
@@ -34,7 +34,7 @@ key-most made =
     pick-most (eqb (made .number) 0) [] (textOf (refusedFrame (made .number))) textLength (omega arith)
     (omega (arith, text-length (refusedFrame (made .number))))
 
-pub tell-most : (a : Session) (line : List ℕ) → length (tellOf a line) ≤ textLength
+tell-most : (a : Session) (line : List ℕ) → length (tellOf a line) ≤ textLength
 unfolding tellOf
 tell-most a line =
     let text = textOf (lineAnswer (a .keys) line) in

@@ -8,6 +8,7 @@ use lib.ListN.{length, take, replicate, length-take}
 use Rattle.keys.specs.declared.KeyAnswer.{KeyAnswer}
 use Rattle.keys.specs.Answer.{refusedKeys}
 use borrow.Author.Tests.{ne-eqb}
+use Rattle.lines.specs.Lines.{lineFeed}
 use Rattle.lines.specs.Reader.{keptChars, Reader, closing}
 use Rattle.lines.specs.Gather.{laid}
 use Rattle.lines.proofs.Tidied.{laid-none, laid-front}
@@ -26,13 +27,13 @@ state-kept s h = omega (arith, length-take (s .count) (s .line))
 
 -- a state in which no line is begun
 pub state-fresh : (a : Session)
-    → record { stage = a .stage; keys = a .keys; line = replicate 511 0; count = 0 } ≡ stateOf (record { session = a; line = [] })
+    → record { stage = a .stage; keys = a .keys; line = replicate keptChars 0; count = 0 } ≡ stateOf (record { session = a; line = [] })
 unfolding stateOf
 state-fresh a = λ i. record { stage = a .stage; keys = a .keys; line = laid-none i; count = 0 }
 
 -- the state at the start
 pub state-begun : {k : KeyAnswer} → k ≡ refusedKeys 0
-    → record { stage = 0; keys = k .keys; line = replicate 511 0; count = 0 } ≡ stateOf (record { session = begun; line = [] })
+    → record { stage = 0; keys = k .keys; line = replicate keptChars 0; count = 0 } ≡ stateOf (record { session = begun; line = [] })
 unfolding begun refusedKeys
 state-begun e = rw e (state-fresh begun)
 
@@ -49,7 +50,7 @@ pub closing-none : (s : State) → s .count ≡ 0 → closing (readerOf s) ≡ [
 unfolding closing readerOf
 closing-none s z = rw z
 
-pub closing-feed : (s : State) → length (s .line) ≡ keptChars → (s .count ≡ 0 → ⊥) → closing (readerOf s) ≡ 10 ∷ []
+pub closing-feed : (s : State) → length (s .line) ≡ keptChars → (s .count ≡ 0 → ⊥) → closing (readerOf s) ≡ lineFeed ∷ []
 unfolding closing readerOf
 closing-feed s size h =
     rw (ne-eqb (length (take (s .count) (s .line))) 0 (λ z. h (omega (arith, length-take (s .count) (s .line)))))

@@ -73,6 +73,15 @@ stepping-ready {s} {part} {space} {now} {t} v size more room =
       room = omega (arith, stepping-length v);
     }
 
+-- behind what was written the space is as it was
+stepping-behind : {s : State} {part space now : List ℕ} {t : Turn} → Stepping s part space t now → (n : ℕ) {k : ℕ} → k ≡ t .out + n
+    → drop k now ≡ drop k space
+stepping-behind {s} {part} {space} {now} {t} v n {k} e =
+    let o = over s part (t .at) in
+    let sum : k ≡ length o + n = omega (arith, e, v .out-is) in
+    ap₂ (λ (j : ℕ) (x : List ℕ). drop j x) sum (v .space-is)
+    ∙ drop-append-add o (drop (t .out) space) n ∙ drop-drop n (t .out) space ∙ ap (λ (j : ℕ). drop j space) (sym e)
+
 -- and is taken
 pub stepping-more : {s : State} {part space now now′ : List ℕ} {t t′ : Turn} → Stepping s part space t now → length (s .line) ≡ keptChars
     → textLength ≤ length space - t .out → Turned (t .state) part (t .at) now (t .out) t′ now′
@@ -96,11 +105,7 @@ stepping-more {s} {part} {space} {now} {now′} {t} {t′} v size room u =
     let out-to : t′ .out ≡ length (o ++ more) = u .out-is ∙ omega (arith, v .out-is, length-append o more) in
     let kept-space : take (t .out) now ≡ o =
     ap (take (t .out)) (v .space-is) ∙ take-at o (drop (t .out) space) (t .out) (sym (v .out-is)) in
-    let sum : t′ .out ≡ length o + length more = omega (arith, u .out-is, v .out-is) in
-    let rest : drop (t′ .out) now ≡ drop (t′ .out) space =
-    ap₂ (λ (k : ℕ) (x : List ℕ). drop k x) sum (v .space-is)
-    ∙ drop-append-add o (drop (t .out) space) (length more) ∙ drop-drop (length more) (t .out) space
-    ∙ ap (λ (k : ℕ). drop k space) (sym (u .out-is)) in
+    let rest = stepping-behind v (length more) (u .out-is) in
     let size-is = stepping-length v in
     let left : takes turnOf tellOf textLength (after s part (t .at)) (length space - t .out) (drop (t .at) part)
     ≡ n + takes turnOf tellOf textLength (after s part (t′ .at)) (length space - t′ .out) (drop (t′ .at) part) =
@@ -172,7 +177,7 @@ module _
 
 -- a state made tidy stands for the same reader, and is tidy
 module _ (s : State) {s′ : State} (size : length (s .line) ≡ keptChars) (e : s′ ≡ stateOf (readerOf s)) where
-  pub tidied-reader : readerOf s′ ≡ readerOf s
+  tidied-reader : readerOf s′ ≡ readerOf s
   tidied-reader = ap readerOf e ∙ state-reader (readerOf s) (state-kept s size)
 
   pub tidied-tidy : s′ ≡ stateOf (readerOf s′)

@@ -9,14 +9,12 @@ use native.Mathlib.Omega.{arith}
 use lib.Dec.{eqb}
 use lib.ListN.{length}
 use lib.Seq.{take-all, length-take-le}
-use borrow.Author.Tests.{ne-eqb}
 use Rattle.laws.proofs.Cases.{below-or-not}
 use Rattle.keys.specs.declared.KeySet.{KeySet}
 use Rattle.keys.specs.declared.KeyAnswer.{KeyAnswer}
 use Rattle.keys.specs.Answer.{refusedKeys}
 use Rattle.keyline.specs.KeyLine.{keyLineAnswer}
 use Rattle.keyline.proofs.Answered.{number-length as key-length, read-refused}
-use Rattle.hex.specs.Line.{decodeNumber}
 use Rattle.hex.proofs.Outcome.{number-length as line-length}
 use Rattle.frame.specs.Frame.{refusedFrame}
 use Rattle.lines.specs.Lines.{lines}
@@ -24,6 +22,7 @@ use Rattle.lines.specs.Reader.{keptChars, keptLine, Reader, reads, said, closin
 use Rattle.lines.proofs.Reader.{answers, said-all}
 use Rattle.answer.specs.Line.{lineAnswer}
 use Rattle.answer.specs.Text.{textOf}
+use Rattle.answer.proofs.Answered.{answer-refused}
 use Rattle.session.specs.Check.{frameLines, underKeys, checkLines, checkOutput}
 use Rattle.session.specs.Session.{Session, sessionOf, keyTurn, keyTell, begun, turnOf, tellOf}
 
@@ -39,14 +38,10 @@ key-kept =
     alike keyLineAnswer (refusedKeys 8)
     (λ l b. sym (read-refused l (key-length l (λ z. omega arith)) (λ z. omega arith) refl))
 
-line-long : (k : KeySet) (l : List ℕ) → 510 < length l → lineAnswer k l ≡ refusedFrame 8
-unfolding lineAnswer
-line-long k l b =
-    let n : decodeNumber 255 l ≡ 8 = sym (line-length 255 l (omega arith) b) in
-    rw (ne-eqb (decodeNumber 255 l) 0 (λ z. omega arith)) (ap refusedFrame n)
-
 line-kept : (k : KeySet) (l : List ℕ) → lineAnswer k (keptLine l) ≡ lineAnswer k l
-line-kept k = alike (lineAnswer k) (refusedFrame 8) (line-long k)
+line-kept k =
+    alike (lineAnswer k) (refusedFrame 8)
+    (λ l b. sym (answer-refused k l (line-length 255 l (omega arith) b) (λ z. omega arith)))
 
 pub turn-kept : (a : Session) (l : List ℕ) → turnOf a (keptLine l) ≡ turnOf a l
 unfolding turnOf
@@ -79,7 +74,7 @@ keys-by made ls false e =
     ∙ append-nil (textOf (refusedFrame (made .number))))
 
 -- from the start it is the program's output
-pub answers-begun : (ls : List (List ℕ)) → answers turnOf tellOf begun ls ≡ checkLines ls
+answers-begun : (ls : List (List ℕ)) → answers turnOf tellOf begun ls ≡ checkLines ls
 unfolding answers checkLines begun turnOf tellOf
 answers-begun [] = refl
 answers-begun (l ∷ ls) = let made = keyLineAnswer l in keys-by made ls (eqb (made .number) 0) refl

@@ -12,12 +12,16 @@ ghost use lib.Dec.{leb, ltb};
 ghost use lib.ListN.{length, take, drop};
 ghost use Prim.Native.Nat.{_+_, _-_, _≤_};
 ghost use Rattle.laws.specs.Agree.{both};
+ghost use Rattle.answer.specs.Text.{textLength};
 ghost use Rattle.session.specs.Session.{keyTurn, keyTell, turnOf, tellOf, sessionOf, readerOf, stateOf};
 ghost use Rattle.session.specs.Inner.{Tells, Ready, Turned};
 ghost use Rattle.session.specs.Promise.{BeginPromise, IsOverPromise, StepPromise, FinishPromise};
+use answer::ANSWER;
 use keys::DONE;
 use keys::KeyAnswer;
 use keys::KeySet;
+use lines::KEPT;
+use lines::LINE_FEED;
 
 // The key line is awaited; frames are; or the key line was refused, and nothing more is answered.
 const AWAITS_KEYS: u8 = 0;
@@ -26,17 +30,12 @@ const HAS_KEYS: u8 = 1;
 
 const OVER: u8 = 2;
 
-// The bytes of an answer.
-const ANSWER: usize = 21;
-
-const LINE_FEED: u8 = 10;
-
 // What is kept from one part of the input to the next: what the lines so far have made of it, and the
 // line that is begun.
 pub struct State {
     pub stage: u8,
     pub keys: KeySet,
-    pub line: [u8; 511],
+    pub line: [u8; KEPT],
     pub count: usize,
 }
 
@@ -53,7 +52,7 @@ struct Told {
     stage: u8,
     keys: KeySet,
     says: bool,
-    text: [u8; 21],
+    text: [u8; ANSWER],
 }
 
 // The state so far, and how many bytes were taken and written for it.
@@ -72,7 +71,7 @@ pub fn begin() -> State
     State {
         stage: AWAITS_KEYS,
         keys,
-        line: [0; 511],
+        line: [0; KEPT],
         count: 0,
     }
 }
@@ -94,7 +93,7 @@ fn keys_told(made: KeyAnswer) -> Told
             stage: HAS_KEYS,
             keys,
             says: false,
-            text: [0; 21],
+            text: [0; ANSWER],
         };
     }
     Told {
@@ -124,7 +123,7 @@ fn line_told(stage: u8, keys: KeySet, line: &[u8]) -> Told
         stage,
         keys,
         says: false,
-        text: [0; 21],
+        text: [0; ANSWER],
     }
 }
 
@@ -136,15 +135,15 @@ fn fresh(t: Told) -> State
     State {
         stage: t.stage,
         keys,
-        line: [0; 511],
+        line: [0; KEPT],
         count: 0,
     }
 }
 
 // A text, laid in the space from a place on.
-fn lay(text: [u8; 21], space: &mut [u8], out: usize)
-    requires { ⌜ out + 21 ≤ length (now space) ⌝ }
-    ensures { λ _. ⌜ now (space .exit) ≡ take out (now (space .entry)) ++ text ++ drop (out + 21) (now (space .entry)) ⌝ }
+fn lay(text: [u8; ANSWER], space: &mut [u8], out: usize)
+    requires { ⌜ out + textLength ≤ length (now space) ⌝ }
+    ensures { λ _. ⌜ now (space .exit) ≡ take out (now (space .entry)) ++ text ++ drop (out + textLength) (now (space .entry)) ⌝ }
 {
     let mut i: usize = 0;
     while i < ANSWER {
@@ -198,7 +197,7 @@ fn take_turn<'a>(s: State, part: &'a [u8], at: usize, space: &'a mut [u8], out: 
 
 // Whether there is more to take, and room for another answer.
 fn goes(at: usize, end: usize, out: usize, room: usize) -> bool
-    ensures { λ r. ⌜ r ≡ both (ltb at end) (leb 21 (room - out)) ⌝ }
+    ensures { λ r. ⌜ r ≡ both (ltb at end) (leb textLength (room - out)) ⌝ }
 {
     if at >= end {
         return false;
@@ -223,7 +222,7 @@ fn tidied(s: State) -> State
     }
 }
 
-// Takes as much of a part as the space has room for the answers to; of a space under 21 bytes, nothing.
+// Takes as much of a part as the space has room for the answers to; with a space under 21 bytes, nothing.
 pub fn step<'a>(s: State, part: &'a [u8], space: &'a mut [u8]) -> Stepped
     ensures { λ r. ⌜ StepPromise s (now (part .entry)) (now (space .entry)) r (now (space .exit)) ⌝ }
 {

@@ -6,8 +6,9 @@ use Prim.Native.Nat.{ℕ, _+_, _*_}
 use native.Mathlib.Omega.{arith}
 use lib.ListN.{getD}
 use Rattle.laws.specs.Agree.{table}
-use Rattle.state.specs.State.{State, cell, grid}
-use Rattle.state.specs.Promise.{LoadPromise, StorePromise, ShiftRowsPromise, XorWordPromise}
+use Rattle.field.specs.Field.{xtime, mulDigits}
+use Rattle.state.specs.State.{State, cell, grid, mix}
+use Rattle.state.specs.Promise.{LoadPromise, StorePromise, ShiftRowsPromise, MixColumnsPromise, XorWordPromise, AddRoundKeyPromise}
 
 -- the bytes 0 to 15 as a block, and as a state row by row
 abbrev counted : List ℕ
@@ -42,6 +43,24 @@ row-not-turned r h p = let z : cell r 1 0 ≡ 5 = ap (λ (s : State). cell s 1 0
 -- shift_rows does not turn row 1 to the right
 pub row-turned-right : (r : State) → cell r 1 0 ≡ 7 → ShiftRowsPromise by-rows r → ⊥
 row-turned-right r h p = let z : cell r 1 0 ≡ 5 = ap (λ (s : State). cell s 1 0) p in omega arith
+
+-- mix_columns does not leave a state as it is
+pub columns-not-mixed : MixColumnsPromise by-rows by-rows → ⊥
+unfolding mix mulDigits xtime
+columns-not-mixed p = let z : _≡_ {A = ℕ} 0 8 = ap (λ (s : State). cell s 0 0) p in omega arith
+
+-- row 1 of mix_columns does not multiply row 2 by {02} and itself by {03}
+pub mix-rows-exchanged : (r : State) → cell r 1 0 ≡ 16 → MixColumnsPromise by-rows r → ⊥
+unfolding mix mulDigits xtime
+mix-rows-exchanged r h p = let z : cell r 1 0 ≡ 28 = ap (λ (s : State). cell s 1 0) p in omega arith
+
+-- a key of zeros, which leaves a state as it is
+abbrev no-key : State
+no-key = grid (λ r c. 0)
+
+-- add_round_key does not add the key to itself in place of the state
+pub key-with-itself : (r : State) → cell r 0 1 ≡ 0 → AddRoundKeyPromise by-rows no-key r → ⊥
+key-with-itself r h p = let z : cell r 0 1 ≡ 1 = ap (λ (s : State). cell s 0 1) p in omega arith
 
 -- two words whose sum by or, and whose sums of bytes that do not stand at one place, differ from their sum
 abbrev one-word : List ℕ

@@ -1,6 +1,6 @@
 -- A well-formed stream with a part more, as code puts it together.
 -- Assumes nothing.
-use mathlib.Core.Path.{_≡_, ap, sym, _∙_}
+use mathlib.Core.Path.{_≡_, refl, ap, sym, _∙_}
 use mathlib.Core.List.{List, _++_}
 use Prim.Native.Nat.{ℕ, _+_, _-_, _*_, _/_, _≤_, _<_}
 use native.Mathlib.Omega.{arith}
@@ -21,6 +21,11 @@ use Rattle.judge.proofs.Formed.{Formed}
 use Rattle.judge.proofs.Faultless.{formed-few}
 use Rattle.judge.proofs.Held.{Fine, held-count, joined-count}
 use Rattle.stream.specs.Answer.{addedTo}
+
+-- a part raises the total by its bytes
+pub added-total : (d : ℕ) (f : Step) (s : Stream) (p : List ℕ) → addedTo d f s p .total ≡ s .total + length p
+unfolding addedTo streamOf
+added-total d f s p = refl
 
 module _ (d : ℕ) (f : Step) (s : Stream) (p : List ℕ) (fine : Fine d s) where
   -- held bytes and part make no more than a block

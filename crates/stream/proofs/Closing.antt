@@ -9,7 +9,8 @@ use Rattle.chain.specs.declared.Chain.{Chain}
 use Rattle.keys.specs.declared.KeySet.{KeySet}
 use Rattle.engine.specs.Engine.{sealedBy}
 use Rattle.engine.proofs.Room.{Room}
-use Rattle.tag.proofs.Answered.{sealed-length, sealed-tagged}
+use Rattle.tag.specs.Inner.{Sealed}
+use Rattle.tag.proofs.Answered.{sealed-by}
 use Rattle.judge.specs.declared.Stream.{Stream}
 use Rattle.judge.specs.Stream.{chainOf, heldOf}
 use Rattle.judge.proofs.Formed.{Formed}
@@ -18,10 +19,9 @@ use Rattle.judge.proofs.Held.{Fine, formed-holds, held-count}
 use Rattle.judge.proofs.Total.{total}
 use Rattle.judge.proofs.Zeros.{zeros-are}
 use Rattle.stream.specs.Answer.{closed}
-use Rattle.stream.specs.Inner.{Sealed}
 
 -- its counts have room for any part
-pub formed-room : (d : ℕ) (s : Stream) → Formed d s → Room (chainOf s)
+formed-room : (d : ℕ) (s : Stream) → Formed d s → Room (chainOf s)
 formed-room d s f =
     let few = formed-few d s f in
     record { wholes = omega (arith, few .wholes-few); fours = omega (arith, few .fours-few) }
@@ -32,17 +32,15 @@ unfolding blocks
 fresh-zeros d s f z e =
     zeros-are (s .value) (f .fresh (omega arith)) ∙ ap (λ (n : ℕ). replicate n 0) z
 
-pub closing-sealed : (k : KeySet) (s : Stream) {c : Chain} → c ≡ sealedBy (k .round) (k .full) (k .short) (chainOf s) (heldOf s)
-    → Fine (k .order) s → length (s .value) ≡ 16 → 1 ≤ s .total → Sealed k s c
+pub closing-sealed : (k : KeySet) (s : Stream) {c₀ c : Chain} → c₀ ≡ chainOf s
+    → c ≡ sealedBy (k .round) (k .full) (k .short) c₀ (heldOf s) → Fine (k .order) s → length (s .value) ≡ 16 → 1 ≤ s .total
+    → Sealed (k .bits) (closed k s) c
 unfolding closed
-closing-sealed k s e fine v some =
+closing-sealed k s q e fine v some =
     let f = fine .form in
     let n = held-count fine in
     let room = formed-room (k .order) s f in
     let least = total (s .total) .some some in
-    record {
-      size = sealed-length k (chainOf s) (heldOf s) room e;
-      tag =
-          sealed-tagged k (chainOf s) (heldOf s) room (k .bits) (blocks (s .total)) e (omega (arith, f .most .count))
-          (omega (arith, formed-holds (k .order) s f .most)) (fresh-zeros (k .order) s f v);
-    }
+    let is = e ∙ ap (λ (x : Chain). sealedBy (k .round) (k .full) (k .short) x (heldOf s)) q in
+    sealed-by k (chainOf s) (heldOf s) room (k .bits) (blocks (s .total)) is (omega (arith, f .most .count))
+    (omega (arith, formed-holds (k .order) s f .most)) (fresh-zeros (k .order) s f v)

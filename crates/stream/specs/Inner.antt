@@ -10,11 +10,9 @@ use Rattle.chain.specs.Walk.{Step, walk}
 use Rattle.chain.specs.Stream.{after}
 use Rattle.pcmac.specs.Limits.{messageLimit}
 use Rattle.keys.specs.declared.KeySet.{KeySet}
-use Rattle.tag.specs.Answer.{taggedBy}
 use Rattle.judge.specs.declared.Stream.{Stream}
 use Rattle.judge.specs.Stream.{heldOf}
 use Rattle.judge.proofs.Formed.{Formed}
-use Rattle.stream.specs.Answer.{closed}
 
 -- the stream is well formed, and the part is not too long for it
 pub record Extends (d : ℕ) (s : Stream) (part : List ℕ) : Type 0 where
@@ -36,8 +34,3 @@ takenBoth d f done c first part =
 pub record Closable (k : KeySet) (s : Stream) : Type 0 where
   pub form : Formed (k .order) s
   pub some : 1 ≤ s .total
-
--- the chain after the closing step: its value is sixteen bytes, of which the tag is cut, with the counts
-pub record Sealed (k : KeySet) (s : Stream) (c : Chain) : Type 0 where
-  pub size : length (c .value) ≡ 16
-  pub tag : taggedBy (k .bits) c ≡ closed k s

@@ -9,9 +9,10 @@
 ghost use mathlib.Core.Path.{_≡_};
 ghost use Prim.Native.Nat.{_≤_};
 ghost use Rattle.engine.specs.Engine.{chainStep};
+ghost use Rattle.tag.specs.Inner.{Sealed};
 ghost use Rattle.judge.specs.Stream.{chainOf};
-ghost use Rattle.stream.specs.Answer.{addNumber, addedTo, closeNumber};
-ghost use Rattle.stream.specs.Inner.{Extends, Past, takenBoth, Closable, Sealed};
+ghost use Rattle.stream.specs.Answer.{addNumber, addedTo, closeNumber, closed};
+ghost use Rattle.stream.specs.Inner.{Extends, Past, takenBoth, Closable};
 ghost use Rattle.stream.specs.Promise.{StartPromise, AddPromise, ClosePromise, CheckPromise};
 use chain::Chain;
 pub use judge::Stream;
@@ -39,16 +40,6 @@ pub fn start() -> Stream
     }
 }
 
-// The first fault where a part of n bytes is added.
-fn add_fault(keys: KeySet, s: Stream, n: usize) -> u8
-    ensures { λ r. ⌜ r ≡ addNumber keys s n ⌝ }
-{
-    let set = keys::set_fault(keys);
-    let form = judge::stream_fault(keys.order, s);
-    let long = judge::length_fault(s.total, n);
-    judge::first(set, judge::first(form, long))
-}
-
 // The chain of a stream.
 fn chain_of(s: Stream) -> Chain
     ensures { λ r. ⌜ r ≡ chainOf s ⌝ }
@@ -59,6 +50,16 @@ fn chain_of(s: Stream) -> Chain
         whole: s.whole,
         four: s.four,
     }
+}
+
+// The first fault where a part of n bytes is added.
+fn add_fault(keys: KeySet, s: Stream, n: usize) -> u8
+    ensures { λ r. ⌜ r ≡ addNumber keys s n ⌝ }
+{
+    let set = keys::set_fault(keys);
+    let form = judge::stream_fault(keys.order, s);
+    let long = judge::length_fault(s.total, n);
+    judge::first(set, judge::first(form, long))
 }
 
 // The chain after the held block, filled up, and then the whole blocks of a part, taken where they
@@ -176,7 +177,7 @@ fn close_fault(keys: KeySet, s: Stream, n: usize) -> u8
 // The chain after the closing step, the bytes held being the last block.
 fn sealed(keys: KeySet, s: Stream) -> Chain
     requires { ⌜ Closable keys s ⌝ }
-    ensures { λ r. ⌜ Sealed keys s r ⌝ }
+    ensures { λ r. ⌜ Sealed (keys .bits) (closed keys s) r ⌝ }
 {
     let round = keys.round;
     let full = keys.full;

@@ -22,7 +22,8 @@ use Rattle.engine.proofs.Together.{engine-sealed}
 use Rattle.tag.specs.Tag.{tagBytes}
 use Rattle.tag.specs.Answer.{taggedBy, refusedTag, madeTag, checkedTag, makingAnswer, makingSlice, checkingAnswer}
 use Rattle.tag.specs.declared.TagAnswer.{TagAnswer}
-use Rattle.tag.specs.Promise.{WritePromise}
+use Rattle.tag.specs.Inner.{Sealed}
+use Rattle.tag.specs.Promise.{WritePromise, ComparePromise}
 use Rattle.tag.proofs.Laid.{laid-all}
 use Rattle.tag.proofs.Tagged.{tag-length, received-checked}
 
@@ -54,20 +55,21 @@ module _ (n : ℕ) (t : Tagged) where
   checking-is p l e = rw (eq-eqb n 0 e)
 
   -- made, from the chain after the closing step, into a slice that has just the bytes of the tag: the answer, and the slice
-  pub making-written : (p : ℕ) (c : Chain) (l : List ℕ) {r : TagAnswer} {after : List ℕ} → n ≡ 0 → p ≤ 128 → length (c .value) ≡ 16
-      → length l ≡ tagBytes p → taggedBy p c ≡ t → WritePromise c p l r after → (r ≡ makingAnswer n t) × (after ≡ makingSlice n t l)
+  pub making-written : (p : ℕ) (c : Chain) (l : List ℕ) {r : TagAnswer} {after : List ℕ} → n ≡ 0 → p ≤ 128 → length l ≡ tagBytes p
+      → Sealed p t c → WritePromise c p l r after → (r ≡ makingAnswer n t) × (after ≡ makingSlice n t l)
   unfolding taggedBy
-  making-written p c l e b v h q w = (
-    w .0 ∙ ap madeTag q ∙ sym (making-is e),
-    w .1 ∙ laid-all (bytes (cut p (c .value))) l (tag-length p (c .value) b v ∙ sym h) ∙ ap (λ (u : Tagged). bytes (u .tag)) q
-        ∙ sym (slice-is l e),
+  making-written p c l e b h s w = (
+    w .0 ∙ ap madeTag (s .tag) ∙ sym (making-is e),
+    w .1 ∙ laid-all (bytes (cut p (c .value))) l (tag-length p (c .value) b (s .size) ∙ sym h)
+        ∙ ap (λ (u : Tagged). bytes (u .tag)) (s .tag) ∙ sym (slice-is l e),
   )
 
   -- checked, from the received bytes as a block
-  pub checking-checked : (p : ℕ) (l : List ℕ) {x : Block} {u : Tagged} → n ≡ 0 → p ≤ 128 → length l ≡ tagBytes p → x ≡ sixteen l
-      → u ≡ t → checkedTag p x u ≡ checkingAnswer n p l t
-  checking-checked p l {x} {u} e b h f q =
-      ap (λ (y : Block). checkedTag p y u) f ∙ received-checked p l u b h ∙ ap (checkedTag p l) q ∙ sym (checking-is p l e)
+  pub checking-checked : (p : ℕ) (l : List ℕ) {x : Block} {c : Chain} {r : TagAnswer} → n ≡ 0 → p ≤ 128 → length l ≡ tagBytes p
+      → x ≡ sixteen l → Sealed p t c → ComparePromise c p x r → r ≡ checkingAnswer n p l t
+  checking-checked p l {x} {c} e b h f s w =
+      w ∙ ap (λ (y : Block). checkedTag p y (taggedBy p c)) f ∙ received-checked p l (taggedBy p c) b h
+      ∙ ap (checkedTag p l) (s .tag) ∙ sym (checking-is p l e)
 
 -- the number of a call that makes a tag is that of its first fault
 pub making-number : (n : ℕ) (t : Tagged) → makingAnswer n t .number ≡ n
@@ -107,15 +109,13 @@ module _ (set : KeySet) (c : Chain) (last : List ℕ) (room : Room c) where
   sealed-is : sealedBy (set .round) (set .full) (set .short) c last ≡ sealing (set .round) (set .full) (set .short) c last
   sealed-is = sealed-room (set .round) (set .full) (set .short) c last (room-roomy c room)
 
-  -- the closing step gives sixteen bytes
-  pub sealed-length : {r : Chain} → r ≡ sealedBy (set .round) (set .full) (set .short) c last → length (r .value) ≡ 16
-  unfolding sealing
-  sealed-length e =
-      ap (λ (x : Chain). length (x .value)) (e ∙ sealed-is)
-      ∙ cipher-length (set .round) (closing (set .full) (set .short) (c .value) last)
-
-  -- of which the tag is cut, with the counts, as Algorithm 2.2 does
-  pub sealed-tagged : (p m : ℕ) {r : Chain} → r ≡ sealedBy (set .round) (set .full) (set .short) c last → 1 ≤ length last
-      → length last ≤ 16 → (m ≡ 1 → c .value ≡ zeros) → taggedBy p r ≡ sealed (keysIn set) p m c last
-  unfolding taggedBy
-  sealed-tagged p m e a b z = ap (taggedBy p) (e ∙ sealed-is) ∙ engine-sealed set p m c last a b z
+  -- the closing step gives sixteen bytes, of which the tag is cut, with the counts, as Algorithm 2.2 does
+  pub sealed-by : (p m : ℕ) {r : Chain} → r ≡ sealedBy (set .round) (set .full) (set .short) c last → 1 ≤ length last
+      → length last ≤ 16 → (m ≡ 1 → c .value ≡ zeros) → Sealed p (sealed (keysIn set) p m c last) r
+  unfolding sealing taggedBy
+  sealed-by p m e a b z = record {
+    size =
+        ap (λ (x : Chain). length (x .value)) (e ∙ sealed-is)
+        ∙ cipher-length (set .round) (closing (set .full) (set .short) (c .value) last);
+    tag = ap (taggedBy p) (e ∙ sealed-is) ∙ engine-sealed set p m c last a b z;
+  }

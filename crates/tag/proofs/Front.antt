@@ -120,7 +120,7 @@ module _ (b : ℕ) (m : List ℕ) (h : Bytes (b ∷ m)) where
   part-at k v (suc j) l e = past k (suc j) (getD m j 0) (omega arith) (h (suc j) .fits)
 
 -- each byte of the first p bits
-pub bytes-at : (m : List ℕ) (p j : ℕ) → Bytes m → j < length m → getD (bytes (take p (bits m))) j 0 ≡ front (p - 8 * j) (getD m j 0)
+bytes-at : (m : List ℕ) (p j : ℕ) → Bytes m → j < length m → getD (bytes (take p (bits m))) j 0 ≡ front (p - 8 * j) (getD m j 0)
 unfolding bits bytes
 bytes-at [] p j h l = absurd (not-suc-le-zero l)
 bytes-at (b ∷ m) zero j h l = past 0 j (getD (b ∷ m) j 0) (omega arith) (h j .fits)

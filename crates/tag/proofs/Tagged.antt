@@ -32,7 +32,7 @@ pub tag-length : (p : ℕ) (x : List ℕ) → p ≤ 128 → length x ≡ 16 → 
 tag-length p x l h = let e : min p 128 ≡ p = omega arith in cut-size p x h ∙ ap (λ (k : ℕ). up k 8) e
 
 -- they are the front of the block that they make with zeros behind them
-pub tag-front : (p : ℕ) (x : List ℕ) → length x ≡ 16 → take (tagBytes p) (sixteen (bytes (cut p x))) ≡ bytes (cut p x)
+tag-front : (p : ℕ) (x : List ℕ) → length x ≡ 16 → take (tagBytes p) (sixteen (bytes (cut p x))) ≡ bytes (cut p x)
 tag-front p x h = ⊎-elim whole part (below-or-not 128 p)
   where
     n : length (bytes (cut p x)) ≡ up (min p 128) 8

@@ -1,4 +1,4 @@
--- Blocks compared: a loop that has seen no difference, the end of it, a difference; first bits compared as blocks with zeros behind them.
+-- Blocks compared: a loop that gathers the digits in which they differ, and its end; first bits compared as blocks with zeros behind them.
 -- Assumes nothing.
 use mathlib.Core.Path.{_≡_, refl, ap, ap₂, sym, _∙_}
 use mathlib.Core.Bool.{Bool, true, false}
@@ -8,9 +8,11 @@ use Prim.Native.Nat.{ℕ, _+_, _≤_, _<_}
 use native.Mathlib.Nat.{not-suc-le-zero, le-of-suc-le-suc, eq-or-lt-of-le}
 use native.Mathlib.Numerals.{add-one}
 use native.Mathlib.Omega.{arith}
-use lib.Dec.{T}
+use lib.Bits.{bitOr, bitXor, and-le-l, and-le-r, or-add-and, xor-add-and, xor-self}
+use lib.Dec.{T, eqb, eqb→eq}
 use lib.ListN.{length, getD, take}
 use lib.Seq.{ext-getD}
+use borrow.Author.Tests.{eq-eqb}
 use Rattle.laws.proofs.Bytes.{Bytes}
 use Rattle.laws.specs.Pick.{pick}
 use Rattle.block.specs.Bits.{bits, bytes}
@@ -22,25 +24,6 @@ use Rattle.pcmac.proofs.Tagver.{same-equal, equal-same}
 use Rattle.tag.specs.Answer.{taggedBy, checkedTag}
 use Rattle.tag.proofs.Front.{fronts, cut-fronts, fronts-bits}
 
--- the first i bytes do not differ
-pub record Alike (x y : List ℕ) (i : ℕ) : Type 0 where
-  pub within : i ≤ 16
-  pub so-far : (j : ℕ) → j < i → getD x j 0 ≡ getD y j 0
-
-pub alike-none : (x y : List ℕ) → Alike x y 0
-alike-none x y = record { within = omega arith; so-far = λ j b. absurd (not-suc-le-zero b) }
-
-pub alike-more : {x y : List ℕ} {i : ℕ} → Alike x y i → i < 16 → getD x i 0 ≡ getD y i 0 → Alike x y (i + 1)
-alike-more {x} {y} {i} v h e = record {
-  within = omega arith;
-  so-far = λ j b. ⊎-elim (λ q. rw q e) (v .so-far j) (eq-or-lt-of-le (le-of-suc-le-suc (rw add-one at b)));
-}
-
-pub alike-all : {x y : List ℕ} {i : ℕ} → Alike x y i → length x ≡ 16 → length y ≡ 16 → 16 ≤ i → true ≡ same x y
-alike-all {x} {y} {i} v a b h =
-    let e : x ≡ y = ext-getD 0 x y (a ∙ sym b) (λ j l. v .so-far j (omega arith)) in
-    sym (ap (λ (z : List ℕ). same x z) (sym e) ∙ equal-same x)
-
 -- tests of which each tells the other
 equivalent : (s t : Bool) → (T s → T t) → (T t → T s) → s ≡ t
 equivalent true true f g = refl
@@ -48,22 +31,55 @@ equivalent true false f g = absurd (f tt)
 equivalent false true f g = absurd (g tt)
 equivalent false false f g = refl
 
--- one byte that differs
-pub differ : (x y : List ℕ) (i : ℕ) → (getD x i 0 ≡ getD y i 0 → ⊥) → false ≡ same x y
-differ x y i d = equivalent false (same x y) (λ t. absurd t) (λ t. d (ap (λ (z : List ℕ). getD z i 0) (same-equal x y t)))
-
 holds : (t : Bool) → t ≡ true → T t
 holds t e = rw e tt
+
+-- equal lists pass the test
+passes : (x y : List ℕ) → x ≡ y → T (same x y)
+passes x y e = holds (same x y) (ap (λ (z : List ℕ). same x z) (sym e) ∙ equal-same x)
 
 -- lists that are equal where two others are, and the other way round
 same-where : (a b c d : List ℕ) → (a ≡ b → c ≡ d) → (c ≡ d → a ≡ b) → same a b ≡ same c d
 same-where a b c d f g = equivalent (same a b) (same c d) (λ t. passes c d (f (same-equal a b t))) (λ t. passes a b (g (same-equal c d t)))
-  where
-    passes : (x y : List ℕ) → x ≡ y → T (same x y)
-    passes x y e = holds (same x y) (ap (λ (z : List ℕ). same x z) (sym e) ∙ equal-same x)
+
+-- no digit of an or is set: none of either number's is
+or-none : (a b : ℕ) → bitOr a b ≡ 0 → (a ≡ 0) × (b ≡ 0)
+or-none a b e =
+    let s = or-add-and a b in
+    (omega (arith, and-le-r a b), omega (arith, and-le-l a b))
+
+-- no digit differs: the numbers are equal
+xor-none : (a b : ℕ) → bitXor a b ≡ 0 → a ≡ b
+xor-none a b e = omega (arith, xor-add-and a b, and-le-l a b, and-le-r a b)
+
+-- d has a digit set where the first i bytes differ: where it is 0 those bytes are equal, and where the two lists are equal it is 0
+pub record Gathered (x y : List ℕ) (d i : ℕ) : Type 0 where
+  pub within : i ≤ 16
+  pub alike : d ≡ 0 → (j : ℕ) → j < i → getD x j 0 ≡ getD y j 0
+  pub none : x ≡ y → d ≡ 0
+
+pub gathered-none : (x y : List ℕ) → Gathered x y 0 0
+gathered-none x y = record { within = omega arith; alike = λ e j b. absurd (not-suc-le-zero b); none = λ e. refl }
+
+pub gathered-more : {x y : List ℕ} {d i : ℕ} → Gathered x y d i → i < 16
+    → Gathered x y (bitOr d (bitXor (getD x i 0) (getD y i 0))) (i + 1)
+gathered-more {x} {y} {d} {i} v h = record {
+  within = omega arith;
+  alike = λ e j b.
+      let n = or-none d (bitXor (getD x i 0) (getD y i 0)) e in
+      ⊎-elim (λ q. rw q (xor-none (getD x i 0) (getD y i 0) (n .1))) (v .alike (n .0) j)
+      (eq-or-lt-of-le (le-of-suc-le-suc (rw add-one at b)));
+  none = λ e. ap₂ bitOr (v .none e) (ap (λ (z : List ℕ). bitXor (getD x i 0) (getD z i 0)) (sym e) ∙ xor-self (getD x i 0));
+}
+
+pub gathered-all : {x y : List ℕ} {d i : ℕ} → Gathered x y d i → length x ≡ 16 → length y ≡ 16 → 16 ≤ i → eqb d 0 ≡ same x y
+gathered-all {x} {y} {d} {i} v a b h =
+    equivalent (eqb d 0) (same x y)
+    (λ t. passes x y (ext-getD 0 x y (a ∙ sym b) (λ j l. v .alike (eqb→eq d 0 t) j (omega arith))))
+    (λ t. holds (eqb d 0) (eq-eqb d 0 (v .none (same-equal x y t))))
 
 -- the rule of acceptance as a comparison of blocks
-pub accepted-blocks : (p : ℕ) (x y : List ℕ) → length x ≡ 16 → Bytes x → length y ≡ 16 → Bytes y
+accepted-blocks : (p : ℕ) (x y : List ℕ) → length x ≡ 16 → Bytes x → length y ≡ 16 → Bytes y
     → same (sixteen (bytes (cut p x))) (sixteen (bytes (cut p y))) ≡ accepted p (bits x) (cut p y)
 unfolding accepted cut
 accepted-blocks p x y n h m k =

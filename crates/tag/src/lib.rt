@@ -100,18 +100,18 @@ fn put(x: [u8; 16], n: usize, slice: &mut [u8])
     }
 }
 
-// Whether two blocks are the same.
+// Whether two blocks are the same. All sixteen bytes are looked at, whatever they are: the time that a
+// comparison takes should not say how much of a forged tag was right. (Nothing is proved of time.)
 fn equal(x: [u8; 16], y: [u8; 16]) -> bool
     ensures { λ r. ⌜ r ≡ same x y ⌝ }
 {
+    let mut differing: u8 = 0;
     let mut i: usize = 0;
     while i < 16 {
-        if x[i] != y[i] {
-            return false;
-        }
+        differing |= x[i] ^ y[i];
         i += 1;
     }
-    true
+    differing == 0
 }
 
 // The tag into its slice: the first p bits of the chain's value after the closing step.

@@ -1,5 +1,5 @@
 // Lines of hexadecimal digits in and out.
-ghost use Prim.Native.Nat.{_≤_, _<_};
+ghost use Prim.Native.Nat.{_<_};
 use libc::STDOUT_FILENO;
 
 const LINE_FEED: u8 = 10;
@@ -111,51 +111,6 @@ pub(crate) fn write_words(w: &[u8; 176]) {
 pub(crate) fn write_block(block: [u8; 16]) {
     let text = written(block);
     io::write_all(STDOUT_FILENO, &text);
-}
-
-// The block with n in eight of its bytes, big endian.
-pub(crate) fn put_number(block: [u8; 16], at: usize, n: usize) -> [u8; 16]
-    requires { ⌜ at ≤ 8 ⌝ }
-{
-    let mut r = block;
-    let mut left = n;
-    let mut i: usize = 8;
-    while i > 0 {
-        i -= 1;
-        r[at + i] = (left % 256) as u8;
-        left /= 256;
-    }
-    r
-}
-
-// The number in two bytes.
-fn pair(high: u8, low: u8) -> usize
-    ensures { λ r. ⌜ r < 65536 ⌝ }
-{
-    high as usize * 256 + low as usize
-}
-
-// The number in four bytes of a block, big endian.
-pub(crate) fn number_at(block: [u8; 16], at: usize) -> usize
-    requires { ⌜ at ≤ 12 ⌝ }
-{
-    pair(block[at], block[at + 1]) * 65536 + pair(block[at + 2], block[at + 3])
-}
-
-// Two counts, on a line.
-pub(crate) fn write_counts(whole: usize, four: usize) {
-    write_block(put_number(put_number([0u8; 16], 8, four), 0, whole));
-}
-
-// The part that runs and messages are made of: byte i is 7i + 3.
-pub(crate) fn pattern() -> [u8; 4080] {
-    let mut part = [0u8; 4080];
-    let mut i: usize = 0;
-    while i < 4080 {
-        part[i] = ((7 * i + 3) % 256) as u8;
-        i += 1;
-    }
-    part
 }
 
 // What a line that is no question is answered by.

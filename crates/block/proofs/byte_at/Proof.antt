@@ -4,8 +4,6 @@ use mathlib.Core.Path.{_≡_, sym, _∙_}
 use native.Mathlib.Omega.{arith}
 use lib.ListN.{length, List·getD-eq-default}
 use Rattle.block.proofs.Sixteen.{joined-front, joined-behind}
-use lib.ListN.{List·getD-eq-default}
-use mathlib.Core.Path.{sym, _∙_}
 use borrow.Author.Needs.{needs}
 use Rattle.block.proofs.byte_at.Statement.{statement}
 use Rattle.block.proofs.byte_at.Tie as tie

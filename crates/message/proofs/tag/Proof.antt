@@ -30,12 +30,10 @@ same-length c = search needs
 
 returns-2 : tie.Need-returns-2
 returns-2 c =
-    let at-write = c .before .before in
-    let at-fault = at-write .before .before .before in
-    let sealed = at-write .before .before .sealed .ensures in
-    let none = sym (at-fault .before .fault .ensures) ∙ at-fault .if1 .left in
+    let sealed = c .before .before .before .before in
+    let none = sym (sealed .before .before .fault .ensures) ∙ sealed .before .if1 .left in
     let t = tags _ _ _ none in
-    making-written _ _ _ _ _ none (t .set .tag .high) (sealed .size) (t .size) (sealed .tag) (at-write .write .ensures)
+    making-written _ _ _ _ _ none (t .set .tag .high) (t .size) (sealed .sealed .ensures) (c .before .before .write .ensures)
 
 pub tag-spec : {M : Type 1} → statement M
 tag-spec =

@@ -27,12 +27,10 @@ compare-requires c κs = search needs
 
 returns-2 : tie.Need-returns-2
 returns-2 c =
-    let at-fault = c .before .before .before in
-    let none = sym (at-fault .before .fault .ensures) ∙ at-fault .if1 .left in
+    let sealed = c .before .before in
+    let none = sym (sealed .before .before .fault .ensures) ∙ sealed .before .if1 .left in
     let t = tags _ _ _ none in
-    c .compare .ensures
-    ∙ checking-checked _ _ _ _ none (t .set .tag .high) (t .size) (c .before .read .ensures)
-    (c .before .before .sealed .ensures .tag)
+    checking-checked _ _ _ _ none (t .set .tag .high) (t .size) (c .before .read .ensures) (sealed .sealed .ensures) (c .compare .ensures)
 
 pub verify-spec : {M : Type 1} → statement M
 verify-spec =

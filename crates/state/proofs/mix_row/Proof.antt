@@ -26,7 +26,14 @@ returns c =
     let a = c .before .before .before .before .before .args in
     let bp : Bytes (a .p) = λ j. search needs in
     let bq : Bytes (a .q) = λ j. search needs in
-    cc (mix-rows (a .p) (a .q) (a .t) (a .v) bp bq)
+    rw (
+      c .xor-word4 .ensures,
+      c .before .xor-word3 .ensures,
+      c .before .before .xor-word2 .ensures,
+      c .before .before .before .doubled .ensures,
+      c .before .before .before .before .xor-word .ensures,
+    )
+    (mix-rows (a .p) (a .q) (a .t) (a .v) bp bq)
 
 pub mix-row-spec : {M : Type 1} → statement M
 mix-row-spec =

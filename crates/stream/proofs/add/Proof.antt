@@ -1,10 +1,7 @@
 -- `stream::add` meets its contract. By the number of the first fault.
 -- Assumes nothing.
-use mathlib.Core.Path.{ap, sym, _∙_}
-use Rattle.chain.specs.Walk.{Step}
-use Rattle.engine.proofs.Together.{engine-step}
-use Rattle.stream.specs.Answer.{addedTo}
-use Rattle.stream.proofs.Number.{adds, add-refused, add-done}
+use mathlib.Core.Path.{sym, _∙_}
+use Rattle.stream.proofs.Number.{adds, add-refused, add-walked}
 use borrow.Author.Needs.{needs}
 use Rattle.stream.proofs.add.Statement.{statement}
 use Rattle.stream.proofs.add.Tie as tie
@@ -24,9 +21,7 @@ extended-requires c κs =
 returns-2 : tie.Need-returns-2
 returns-2 c =
     let at-fault = c .before .before .before .before .before in
-    let a = at-fault .before .before .before .args in
-    add-done _ _ _ (sym (at-fault .before .add-fault .ensures) ∙ at-fault .if1 .left)
-    (c .extended .ensures ∙ ap (λ (f : Step). addedTo (a .keys .order) f (a .s) (a .part .now)) (engine-step (a .keys)))
+    add-walked _ _ _ (sym (at-fault .before .add-fault .ensures) ∙ at-fault .if1 .left) (c .extended .ensures)
 
 pub add-spec : {M : Type 1} → statement M
 add-spec = tie.close (tie.spec add-fault-requires returns extended-requires returns-2)

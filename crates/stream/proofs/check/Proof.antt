@@ -29,12 +29,10 @@ compare-requires c κs = search needs
 
 returns-2 : tie.Need-returns-2
 returns-2 c =
-    let at-fault = c .before .before .before in
-    let none = sym (at-fault .before .close-fault .ensures) ∙ at-fault .if1 .left in
-    let taken = closes _ _ _ none in
-    c .compare .ensures
-    ∙ checking-checked _ _ _ _ none (taken .set .tag .high) (taken .size) (c .before .read .ensures)
-    (c .before .before .sealed .ensures .tag)
+    let sealed = c .before .before in
+    let none = sym (sealed .before .before .close-fault .ensures) ∙ sealed .before .if1 .left in
+    let t = closes _ _ _ none in
+    checking-checked _ _ _ _ none (t .set .tag .high) (t .size) (c .before .read .ensures) (sealed .sealed .ensures) (c .compare .ensures)
 
 pub check-spec : {M : Type 1} → statement M
 check-spec =

@@ -5,19 +5,13 @@ use Rattle.vectors.proofs.main.Statement.{statement}
 use Rattle.vectors.proofs.main.Tie as tie
 
 abbrev Inv-loop : tie.InvT-loop
-Inv-loop s₀ turns₀ s turns = Unit {0}
+Inv-loop w₀ turns₀ w turns = Unit {0}
 
 abbrev μ-loop : tie.MeasureT-loop
-μ-loop s₀ turns₀ s turns = turns
+μ-loop w₀ turns₀ w turns = turns
 
 expand-key-requires : tie.Need-expand-key-requires Inv-loop μ-loop
 expand-key-requires c κs = search needs
-
-begun-requires : tie.Need-begun-requires Inv-loop μ-loop
-begun-requires c κs = search needs
-
-unset-requires : tie.Need-unset-requires Inv-loop μ-loop
-unset-requires c κs = search needs
 
 loop-holds : tie.Need-loop-holds Inv-loop μ-loop
 loop-holds c = search needs
@@ -47,8 +41,6 @@ main-spec =
     Inv-loop
     μ-loop
     expand-key-requires
-    begun-requires
-    unset-requires
     loop-holds
     take-turn-requires
     returns

@@ -25,7 +25,13 @@ xor-word-requires c κs = search needs
 
 returns : tie.Need-returns
 unfolding nextWord
-returns c = cc
+returns c =
+    rw (
+      c .xor-word .ensures,
+      c .before .temp .ensures,
+      c .before .before .word-at2 .ensures,
+      c .before .before .before .word-at .ensures,
+    )
 
 pub next-word-spec : {M : Type 1} → statement M
 next-word-spec =

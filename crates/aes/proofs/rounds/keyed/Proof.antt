@@ -13,7 +13,7 @@ add-round-key-requires c κs = search needs
 
 returns : tie.Need-returns
 unfolding keyedRound
-returns c = cc
+returns c = rw (c .add-round-key .ensures, c .before .unkeyed .ensures)
 
 pub keyed-spec : {M : Type 1} → statement M
 keyed-spec = tie.close (tie.spec unkeyed-requires add-round-key-requires returns)

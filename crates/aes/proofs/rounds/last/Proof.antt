@@ -16,7 +16,7 @@ add-round-key-requires c κs = search needs
 
 returns : tie.Need-returns
 unfolding lastRound
-returns c = cc
+returns c = rw (c .add-round-key .ensures, c .before .shift-rows .ensures, c .before .before .sub-bytes .ensures)
 
 pub last-spec : {M : Type 1} → statement M
 last-spec =

@@ -29,7 +29,13 @@ sub-word-requires-4 : tie.Need-sub-word-requires-4
 sub-word-requires-4 c κs = search needs
 
 returns : tie.Need-returns
-returns c = cc
+returns c =
+    rw (
+      c .sub-word4 .ensures,
+      c .before .before .sub-word3 .ensures,
+      c .before .before .before .before .sub-word2 .ensures,
+      c .before .before .before .before .before .before .sub-word .ensures,
+    )
 
 pub sub-bytes-spec : {M : Type 1} → statement M
 sub-bytes-spec =

@@ -29,7 +29,13 @@ sub-byte-requires-4 : tie.Need-sub-byte-requires-4
 sub-byte-requires-4 c κs = search needs
 
 returns : tie.Need-returns
-returns c = cc
+returns c =
+    rw (
+      c .sub-byte4 .ensures,
+      c .before .sub-byte3 .ensures,
+      c .before .before .sub-byte2 .ensures,
+      c .before .before .before .sub-byte .ensures,
+    )
 
 pub sub-word-spec : {M : Type 1} → statement M
 sub-word-spec =

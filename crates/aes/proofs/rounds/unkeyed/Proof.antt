@@ -16,7 +16,7 @@ mix-columns-requires c κs = search needs
 
 returns : tie.Need-returns
 unfolding unkeyedRound
-returns c = cc
+returns c = rw (c .mix-columns .ensures, c .before .shift-rows .ensures, c .before .before .sub-bytes .ensures)
 
 pub unkeyed-spec : {M : Type 1} → statement M
 unkeyed-spec =

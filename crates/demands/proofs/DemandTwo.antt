@@ -1,0 +1,75 @@
+-- Demand 2 holds.
+-- Assumes nothing.
+use mathlib.Core.Path.{_≡_, ap, sym, _∙_}
+use mathlib.Core.Logic.{_↔_}
+use mathlib.Core.List.{List}
+use Prim.Native.Nat.{ℕ}
+use lib.ListN.{length, take}
+use Rattle.block.specs.Bits.{bits, bytes}
+use Rattle.pcmac.specs.Taggen.{TAGGEN}
+use Rattle.pcmac.specs.Tagver.{accepted, TAGVER}
+use Rattle.pcmac.proofs.Tagver.{accepted-equal, equal-accepted, tagver-equal, equal-tagver}
+use Rattle.keys.specs.declared.KeyAnswer.{KeyAnswer}
+use Rattle.tag.specs.declared.TagAnswer.{TagAnswer}
+use Rattle.tag.specs.Answer.{madeTag, checkedTag}
+use Rattle.tag.specs.Tag.{tagBytes}
+use Rattle.tag.proofs.Answered.{making-is, slice-is, checking-is}
+use Rattle.message.specs.Answer.{messageNumber, tagged}
+use Rattle.message.specs.Promise.{TagPromise, VerifyPromise}
+use Rattle.message.proofs.Number.{tags-none}
+use Rattle.demands.specs.Numbers.{Verdict}
+use Rattle.demands.specs.Terms.{Made, Message}
+use Rattle.demands.specs.Two.{Demand2}
+use Rattle.demands.proofs.Frames as of-frames
+use Rattle.demands.proofs.KeySet.{made-meant, made-taken, made-tag}
+use Rattle.demands.proofs.Lines.{key-line-read, line-judged}
+use Rattle.demands.proofs.Numbers.{decided}
+
+-- a message, under a key set that the key call answers for K and L
+module _ {order size : ℕ} {K L M : List ℕ} {made : KeyAnswer} (m : Made order size K L made) (g : Message M) where
+  abbrev d : ℕ
+  d = made .keys .order
+
+  abbrev p : ℕ
+  p = made .keys .bits
+
+  -- it and a slice of a tag's size are no fault
+  faultless : (n : ℕ) → n ≡ tagBytes p → messageNumber (made .keys) (length M) n ≡ 0
+  faultless n h = tags-none (made .keys) (length M) n (record { set = made-taken m; size = h; fits = g .most; some = g .some })
+
+  tag-made : (slice after : List ℕ) (r : TagAnswer) → length slice ≡ tagBytes p → TagPromise (made .keys) M slice r after
+      → (r .number ≡ 0) × (after ≡ bytes (TAGGEN d p K L M))
+  unfolding madeTag
+  tag-made slice after r h e =
+      let none = faultless (length slice) h in
+      let t = tagged (made .keys) M in (
+        ap (λ (x : TagAnswer). x .number) (e .0 ∙ making-is _ t none),
+        e .1 ∙ slice-is _ t slice none ∙ ap bytes (made-tag m M),
+      )
+
+  -- what is accepted is what TAGVER accepts of its first p bits
+  tag-checked : (received : List ℕ) (r : TagAnswer) → length received ≡ tagBytes p → VerifyPromise (made .keys) M received r
+      → ((r .number ≡ 0) ↔ (TAGVER d p K L M (take p (bits received)) ≡ 1)) × Verdict (r .number)
+  unfolding checkedTag
+  tag-checked received r h e =
+      let t = tagged (made .keys) M in
+      let T = take p (bits received) in
+      decided (accepted p (bits received) (t .tag))
+      (ap (λ (x : TagAnswer). x .number) (e ∙ checking-is _ t p received (faultless (length received) h)))
+      (λ q. equal-tagver d p K L M T (accepted-equal p (bits received) (t .tag) q ∙ made-tag m M))
+      (λ q. equal-accepted p (bits received) (t .tag) (tagver-equal d p K L M T q ∙ sym (made-tag m M)))
+
+-- DEMAND 2
+pub demand-2 : Demand2
+demand-2 = record {
+  meant = λ order size K L made m. made-meant m;
+  key-line-read = key-line-read;
+  tag-made = λ order size K L M slice after made r m g h e. tag-made m g slice after r h e;
+  tag-checked = λ order size K L M received made r m g h e. tag-checked m g received r h e;
+  frame-judged = λ order size K L f made r m h e. of-frames.frame-judged m f r h e;
+  frame-made = λ order size K L M made r m h l e. of-frames.frame-made m M r h l e;
+  line-judged = λ k line r l x e. line-judged k line r e l x;
+  opened = of-frames.opened-frame;
+  opened-or = of-frames.opened-frame-or;
+  opened-or-kept = of-frames.opened-frame-or;
+}

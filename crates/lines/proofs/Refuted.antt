@@ -1,0 +1,30 @@
+-- Wrong outcomes that the promises do not permit.
+-- Assumes nothing.
+use mathlib.Core.Path.{_≡_, ap, _∙_}
+use mathlib.Core.List.{List, [], _∷_}
+use Prim.Native.Nat.{ℕ, _<_}
+use native.Mathlib.Omega.{arith}
+use lib.ListN.{getD, take}
+use lib.Seq.{getD-take}
+use Rattle.laws.proofs.Filled.{filled-at}
+use Rattle.lines.specs.declared.Gathered.{Gathered}
+use Rattle.lines.specs.Lines.{plain}
+use Rattle.lines.specs.Reader.{keptChars}
+use Rattle.lines.specs.Gather.{laid, gathered}
+use Rattle.lines.specs.Promise.{TidyPromise, HeldPromise, GatherPromise}
+
+-- a character of a line that is lost, or another in its place
+pub character-lost : (line : List ℕ) (count : ℕ) (r : List ℕ) (i : ℕ) → i < count → i < keptChars → TidyPromise line count r
+    → (getD r i 0 ≡ getD line i 0 → ⊥) → ⊥
+unfolding laid
+character-lost line count r i h l e w =
+    w (ap (λ (x : List ℕ). getD x i 0) e ∙ filled-at keptChars (take count line) i l ∙ getD-take count line i 0 h)
+
+-- more characters counted than are kept
+pub held-without-bound : (count r : ℕ) → HeldPromise count r → keptChars < r → ⊥
+held-without-bound count r e h = omega arith
+
+-- a line that ends at a carriage return
+pub carriage-return-ends-a-line : (line : List ℕ) (count : ℕ) (r : Gathered) → GatherPromise line count (13 ∷ []) 0 r → r .at ≡ 0 → ⊥
+unfolding gathered plain
+carriage-return-ends-a-line line count r e z = let n : r .at ≡ 1 = ap (λ (g : Gathered). g .at) e in omega arith

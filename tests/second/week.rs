@@ -1,0 +1,43 @@
+//! A week of tariff tables, and the line of the benchmark.
+
+use crate::book::{frame_of, turned};
+use crate::hex;
+use crate::inputs::{Input, Pair};
+
+const BODIES: [&str; 7] = [
+    "MON Gibraltar 0450, Ceuta 0520, Tangier 0610",
+    "TUE Gibraltar 0450, Ceuta 0515, Tangier 0610, Cadiz 0390",
+    "WED Gibraltar 0455, Ceuta 0515",
+    "THU Gibraltar 0455",
+    "FRI Gibraltar 0490, Ceuta 0560, Tangier 0660, Cadiz 0430, Malaga 0445, Almeria 0470",
+    "SAT all ports 0700",
+    "SUN all ports 0700, from noon 0450",
+];
+
+/// K and L are bytes that follow each other, from these first ones on.
+fn key_line(order: u8, length: u8, k: u8, l: u8) -> String {
+    let bytes: Vec<u8> = [order, length].into_iter().chain(k..k + 16).chain(l..l + 16).collect();
+    hex::written(&bytes)
+}
+
+/// Seven frames under order 2 and tags of 64 bits. Wednesday's was damaged on its way: byte 16 has its bit of value 4
+/// turned.
+pub fn week() -> Pair {
+    let mut input = Input::with_key_line(key_line(2, 64, 0x10, 0xA0).as_bytes());
+    for (day, body) in BODIES.iter().enumerate() {
+        let frame = frame_of(&input.keys, body.as_bytes());
+        let damaged = day == 2;
+        let frame = if damaged { turned(&frame, 8 * 16 + 5) } else { frame };
+        input.frame(&frame, Some(if damaged { 7 } else { 0 }));
+    }
+    input.named("week")
+}
+
+/// One frame of 100 body bytes under order 2 and tags of 128 bits.
+pub fn bench_line() -> Pair {
+    let mut input = Input::with_key_line(key_line(2, 128, 0x00, 0x10).as_bytes());
+    let body = crate::probe::pattern(100, 3, 7);
+    let frame = frame_of(&input.keys, &body);
+    input.frame(&frame, Some(0));
+    input.named("bench line")
+}
