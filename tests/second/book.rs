@@ -159,12 +159,34 @@ impl Book {
         );
     }
 
-    pub fn decode(&mut self, line: &[u8], space: Space, expected: u8) {
-        self.ask(
+    /// Answers what the space holds afterwards.
+    pub fn decode(&mut self, line: &[u8], space: Space, expected: u8) -> Vec<u8> {
+        let answer = self.ask(
             9,
             &[Data::of(line).in_question(), space_in_question(space)],
             Some(expected),
         );
+        answer[9..].to_vec()
+    }
+
+    /// Answers what the space holds afterwards. The count and the space are held to what the standard library's
+    /// formatting makes of the bytes, so that they do not come from the code that answers.
+    pub fn encode(&mut self, bytes: &Data, (size, filler): Space, expected: u8) -> Vec<u8> {
+        let answer = self.ask(
+            14,
+            &[bytes.in_question(), space_in_question((size, filler))],
+            Some(expected),
+        );
+        let encoded = if expected == 0 { bytes.bytes() } else { Vec::new() };
+        let characters: String = encoded.iter().map(|byte| format!("{byte:02X}")).collect();
+        let untouched = vec![filler; size.saturating_sub(characters.len())];
+        let space = [characters.as_bytes(), &untouched].concat();
+        let written = characters.len() as u64;
+        let count = self.count;
+        hold(answer[1..] == [&written.to_be_bytes()[..], &space].concat(), || {
+            format!("line {count} is made to write other characters, or to leave other bytes behind them")
+        });
+        answer[9..].to_vec()
     }
 
     pub fn judge(&mut self, keys: &KeySet, frame: &Data, expected: Option<u8>) {

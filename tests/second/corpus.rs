@@ -4,9 +4,8 @@ use crate::book::{Book, Data};
 use crate::inputs::Pair;
 use crate::random::Random;
 use crate::{aes, inputs_fresh, inputs_stored, pcmac, week};
-use crate::{
-    questions_frames, questions_keys, questions_lines, questions_messages, questions_spoilt, questions_streams,
-};
+use crate::{questions_encode, questions_frames, questions_keys, questions_lines};
+use crate::{questions_messages, questions_spoilt, questions_streams};
 use std::path::Path;
 use std::{fs, io};
 
@@ -36,6 +35,8 @@ fn book(seed: u64, dense: bool) -> Book {
     questions_spoilt::ask(&mut book);
     questions_frames::ask(&mut book);
     questions_lines::ask(&mut book);
+    // Behind all others, so that the questions before it and the random numbers that they draw stay as they are.
+    questions_encode::ask(&mut book);
     book
 }
 

@@ -14,6 +14,10 @@ pub const LIMIT: u64 = 1_048_576;
 pub const LINE: usize = 510;
 pub const FRAME: usize = 255;
 
+/// The characters of a written line, each at the value that it stands for. The call has them for itself: `hex.rs`
+/// writes the questions too, and a fault of the call must leave these as they are.
+const DIGITS: &[u8; 16] = b"0123456789ABCDEF";
+
 /// A number with the two counts. A refusal has zeros, apart from 7.
 #[derive(Clone, Copy)]
 pub struct Verdict {
@@ -229,6 +233,22 @@ pub fn decode(line: &[u8], space: &mut [u8]) -> (u8, u64) {
         }
         (number, _) => (number, 0),
     }
+}
+
+/// Two characters for each byte, high half first. Answers the number and how many characters were written; the space
+/// behind them is not touched.
+pub fn encode(bytes: &[u8], space: &mut [u8]) -> (u8, u64) {
+    let characters = 2 * bytes.len();
+    let number = first_refusal(&[(3, space.len() < characters)]);
+    if number != 0 {
+        return (number, 0);
+    }
+    let halves = bytes.iter().flat_map(|byte| [byte >> 4, byte & 15]);
+    space
+        .iter_mut()
+        .zip(halves)
+        .for_each(|(place, half)| *place = DIGITS[usize::from(half)]);
+    (0, characters as u64)
 }
 
 /// Body, then tag. Answers the verdict and the length of the body, 0 where the frame is refused.

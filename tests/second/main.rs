@@ -17,6 +17,7 @@ mod inputs_stored;
 mod library;
 mod pcmac;
 mod probe;
+mod questions_encode;
 mod questions_frames;
 mod questions_keys;
 mod questions_lines;

@@ -10,7 +10,7 @@ pub const SECOND: usize = 4_096;
 pub const SPACE: usize = 1_024;
 
 /// The calls by their numbers; there is no call 0.
-pub const CALLS: [&str; 14] = [
+pub const CALLS: [&str; 15] = [
     "no call",
     "keys::key_call",
     "keyline::read",
@@ -25,6 +25,7 @@ pub const CALLS: [&str; 14] = [
     "frame::open",
     "frame::open_or",
     "bridge::open_or_keep",
+    "hex::encode",
 ];
 
 /// The lines of an input: each ends with a line feed, which the last may lack.
@@ -117,8 +118,9 @@ fn answer_bytes(question: &[u8]) -> Option<Vec<u8>> {
         call @ 1..=3 => answer_keys_or_start(call, &mut rest),
         call @ 4..=6 => answer_stream(call, &mut rest),
         call @ 7..=8 => answer_message(call, &mut rest),
-        9 => answer_decode(&mut rest),
+        9 => answer_line(library::decode, &mut rest),
         call @ 10..=13 => answer_frame(call, &mut rest),
+        14 => answer_line(library::encode, &mut rest),
         _ => None,
     }
 }
@@ -179,10 +181,11 @@ fn answer_message(call: u8, rest: &mut Rest) -> Option<Vec<u8>> {
     Some([counts(verdict), space].concat())
 }
 
-fn answer_decode(rest: &mut Rest) -> Option<Vec<u8>> {
-    let (line, mut space) = (rest.bytes(FIRST)?, rest.space()?);
+/// Decoding and encoding have the same fields and answer alike: the number, and how much was written.
+fn answer_line(call: fn(&[u8], &mut [u8]) -> (u8, u64), rest: &mut Rest) -> Option<Vec<u8>> {
+    let (bytes, mut space) = (rest.bytes(FIRST)?, rest.space()?);
     rest.end()?;
-    let (number, written) = library::decode(&line, &mut space);
+    let (number, written) = call(&bytes, &mut space);
     Some([vec![number], written.to_be_bytes().to_vec(), space].concat())
 }
 

@@ -2,7 +2,7 @@
 
 use crate::book::{lowest, space_in_question, Book, Data};
 use crate::hex;
-use crate::probe::{answer, LINE};
+use crate::probe::{answer, CALLS, LINE};
 use crate::questions_keys::OTHERS;
 
 pub fn ask(book: &mut Book) {
@@ -17,7 +17,7 @@ pub fn ask(book: &mut Book) {
     long_lines(book);
 }
 
-fn digits(book: &mut Book, count: usize) -> Vec<u8> {
+pub fn digits(book: &mut Book, count: usize) -> Vec<u8> {
     (0..count).map(|_| book.random.one_of(b"0123456789ABCDEF")).collect()
 }
 
@@ -109,7 +109,8 @@ fn nonsense(book: &mut Book) {
         book.nonsense(line.as_bytes());
     }
     let step = book.pick(16, 1);
-    for call in (0..=255u8).filter(|call| (call % step < 2) && !(1..=13).contains(call)) {
+    let calls = 1..CALLS.len() as u8;
+    for call in (0..=255u8).filter(|call| (call % step < 2) && !calls.contains(call)) {
         book.nonsense(hex::written(&[call]).as_bytes());
         book.nonsense(hex::written(&[&[call], &[0; 40][..]].concat()).as_bytes());
     }
@@ -134,7 +135,7 @@ fn nonsense(book: &mut Book) {
     }
 }
 
-/// A question of each call, cut short everywhere, with a character less, and with a byte behind its last field.
+/// A question of each call is spoilt; that of encoding stands behind all others, with the rest of its questions.
 fn cut_short(book: &mut Book) {
     let keys = book.keys(2, 64);
     let (set, stream) = (keys.to_bytes(), book.stream(2, 20).to_bytes());
@@ -162,16 +163,21 @@ fn cut_short(book: &mut Book) {
             .into_iter()
             .chain(fields.iter().copied().flatten().copied())
             .collect();
-        let line = hex::written(&question).into_bytes();
-        crate::inner::hold(answer(&line) != "?", || {
-            format!("the question of call {call} before it is cut")
-        });
-        book.nonsense(&[&line[..], b"00"].concat());
-        book.nonsense(&line[..line.len() - 1]);
-        for cut in (1..question.len()).rev() {
-            if cut + 12 > question.len() || cut % book.pick(200, 25) == 1 {
-                book.nonsense(&line[..2 * cut]);
-            }
+        spoil(book, &question);
+    }
+}
+
+/// A question cut short everywhere, with a character less, and with a byte behind its last field.
+pub fn spoil(book: &mut Book, question: &[u8]) {
+    let line = hex::written(question).into_bytes();
+    crate::inner::hold(answer(&line) != "?", || {
+        format!("the question of call {} before it is cut", question[0])
+    });
+    book.nonsense(&[&line[..], b"00"].concat());
+    book.nonsense(&line[..line.len() - 1]);
+    for cut in (1..question.len()).rev() {
+        if cut + 12 > question.len() || cut % book.pick(200, 25) == 1 {
+            book.nonsense(&line[..2 * cut]);
         }
     }
 }

@@ -8,7 +8,7 @@ use lib.ListN.{length, take}
 use borrow.Author.Tests.{eq-eqb, ne-eqb}
 use Rattle.keys.specs.declared.KeySet.{KeySet}
 use Rattle.hex.specs.declared.LineAnswer.{LineAnswer}
-use Rattle.hex.specs.Line.{decodeNumber}
+use Rattle.hex.specs.Answer.{decodeNumber}
 use Rattle.hex.specs.Promise.{DecodePromise}
 use Rattle.hex.proofs.Told.{number-is, is-written, written-most, after-length}
 use Rattle.frame.specs.declared.FrameAnswer.{FrameAnswer}

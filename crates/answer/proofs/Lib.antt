@@ -1,3 +1,3 @@
 pub mod Answered
-pub mod Digits
 pub mod Refuted
+pub mod Spelt

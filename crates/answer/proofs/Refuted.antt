@@ -8,11 +8,12 @@ use native.Mathlib.Omega.{arith}
 use lib.ListN.{length, getD}
 use Rattle.laws.proofs.Fault.{unless-fails}
 use Rattle.keys.specs.declared.KeySet.{KeySet}
-use Rattle.hex.specs.Line.{isHex}
+use Rattle.laws.specs.BigEndian.{bigEndian}
+use Rattle.hex.specs.Line.{isHex, encoded}
 use Rattle.hex.proofs.Outcome.{number-rest}
 use Rattle.frame.specs.declared.FrameAnswer.{FrameAnswer}
 use Rattle.frame.specs.Frame.{refusedFrame}
-use Rattle.answer.specs.Text.{hexText, textOf}
+use Rattle.answer.specs.Text.{answerBytes, textOf}
 use Rattle.answer.specs.Promise.{OfLinePromise, TextPromise}
 use Rattle.answer.proofs.Answered.{answer-refused}
 
@@ -27,5 +28,5 @@ frame-before-line k line r h e p z =
 
 -- a letter in lower case: the last digit of a body of ten bytes
 pub lower-case-written : (r : List ℕ) → TextPromise (record { number = 0; whole = 1; four = 0; body = 10 }) r → getD r 19 0 ≡ 97 → ⊥
-unfolding textOf hexText
+unfolding textOf answerBytes bigEndian encoded
 lower-case-written r p z = let n : getD r 19 0 ≡ 65 = ap (λ (l : List ℕ). getD l 19 0) p in omega arith

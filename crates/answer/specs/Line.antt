@@ -5,8 +5,9 @@ use Prim.Native.Nat.{ℕ}
 use lib.Dec.{eqb}
 use Rattle.laws.specs.Pick.{pick}
 use Rattle.keys.specs.declared.KeySet.{KeySet}
-use Rattle.keys.specs.Numbers.{done}
-use Rattle.hex.specs.Line.{leastSpace, decoded, decodeNumber}
+use Rattle.numbers.specs.Numbers.{done}
+use Rattle.hex.specs.Answer.{leastSpace, decodeNumber}
+use Rattle.hex.specs.Line.{decoded}
 use Rattle.frame.specs.declared.FrameAnswer.{FrameAnswer}
 use Rattle.frame.specs.Frame.{refusedFrame, frameAnswer}
 

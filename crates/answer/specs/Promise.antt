@@ -18,7 +18,8 @@ pub of-line-once : (keys : KeySet) (line : List ℕ) (r r′ : FrameAnswer) → 
     → r ≡ r′
 of-line-once keys line r r′ p q = once p q
 
--- text hands back the text of an answer (of a count of more than eight digits the low eight: that of a frame has at most two)
+-- text hands back the text of an answer (of a count of more than eight digits the low eight, of a body length of more than two the low
+-- two: that of a frame has none such)
 abbrev pub TextPromise : FrameAnswer → List ℕ → Type 0
 TextPromise a r = r ≡ textOf a
 

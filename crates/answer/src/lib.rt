@@ -5,15 +5,12 @@
 //     let verdict = answer::of_line(keys, &line);
 //     let text = answer::text(verdict);
 ghost use mathlib.Core.Path.{_≡_};
-ghost use mathlib.Core.List.{_++_};
-ghost use Prim.Native.Nat.{_+_, _<_, _≤_};
-ghost use lib.ListN.{take, drop};
-ghost use Rattle.answer.specs.Text.{digitChar, hexText, textLength};
+ghost use Rattle.answer.specs.Text.{answerBytes};
 ghost use Rattle.answer.specs.Promise.{OfLinePromise, TextPromise};
 use frame::FrameAnswer;
-use keys::DONE;
 use keys::KeySet;
 use lines::LINE_FEED;
+use numbers::DONE;
 
 // The bytes of an answer's text.
 pub const ANSWER: usize = 21;
@@ -31,41 +28,32 @@ pub fn of_line(keys: KeySet, line: &[u8]) -> FrameAnswer
     frame::judge(keys, &space[..end])
 }
 
-// The character of a digit, upper case.
-fn digit_char(n: usize) -> u8
-    requires { ⌜ n < 16 ⌝ }
-    ensures { λ r. ⌜ r ≡ digitChar n ⌝ }
+// An answer as bytes; of a count the last four, of a body length the last.
+fn bytes_of(a: FrameAnswer) -> [u8; 10]
+    ensures { λ r. ⌜ r ≡ answerBytes a ⌝ }
 {
-    if n < 10 {
-        b'0' + n as u8
-    } else {
-        b'A' + (n - 10) as u8
-    }
+    let w = a.whole;
+    let f = a.four;
+    [
+        a.number,
+        (w / 16777216 % 256) as u8,
+        (w / 65536 % 256) as u8,
+        (w / 256 % 256) as u8,
+        (w % 256) as u8,
+        (f / 16777216 % 256) as u8,
+        (f / 65536 % 256) as u8,
+        (f / 256 % 256) as u8,
+        (f % 256) as u8,
+        (a.body % 256) as u8,
+    ]
 }
 
-// The last digits of a number, so many of them, at a place of a text.
-fn put(text: [u8; ANSWER], at: usize, width: usize, n: usize) -> [u8; ANSWER]
-    requires { ⌜ at + width ≤ textLength ⌝ }
-    ensures { λ r. ⌜ r ≡ take at text ++ hexText width n ++ drop (at + width) text ⌝ }
-{
-    let mut r = text;
-    let mut left = n;
-    let mut i = width;
-    while i > 0 {
-        i -= 1;
-        r[at + i] = digit_char(left % 16);
-        left /= 16;
-    }
-    r
-}
-
-// The text of an answer.
+// The text of an answer: its bytes in hexadecimal, over line feeds, of which the last stays.
 pub fn text(a: FrameAnswer) -> [u8; ANSWER]
     ensures { λ r. ⌜ TextPromise a r ⌝ }
 {
-    let blank = [LINE_FEED; ANSWER];
-    let number = put(blank, 0, 2, a.number as usize);
-    let whole = put(number, 2, 8, a.whole);
-    let four = put(whole, 10, 8, a.four);
-    put(four, 18, 2, a.body)
+    let bytes = bytes_of(a);
+    let mut text = [LINE_FEED; ANSWER];
+    hex::encode(&bytes, &mut text);
+    text
 }

@@ -7,7 +7,7 @@ use lib.ListN.{length}
 use Rattle.laws.specs.Fault.{unless, firstFault}
 use Rattle.laws.specs.Pick.{pick}
 use Rattle.keys.specs.declared.KeyAnswer.{KeyAnswer}
-use Rattle.keys.specs.Numbers.{done, badSize}
+use Rattle.numbers.specs.Numbers.{done, badSize}
 use Rattle.tag.specs.declared.TagAnswer.{TagAnswer}
 use Rattle.tag.specs.Answer.{refusedTag}
 use Rattle.message.specs.Answer.{tagAnswer, tagSlice, verdict}

@@ -14,9 +14,9 @@ ghost use Rattle.collierbud.specs.Answer.{startNumber, tagging, taggedSp
 ghost use Rattle.collierbud.specs.Answer.{twoCounts, threeCounts};
 ghost use Rattle.collierbud.specs.Promise.{TagPromise, CheckPromise, OpenPromise};
 use frame::FrameAnswer;
-use keys::BAD_SIZE;
-use keys::DONE;
 use keys::KeyAnswer;
+use numbers::BAD_SIZE;
+use numbers::DONE;
 use tag::TagAnswer;
 
 // The first fault before the call under the key set: the key call's, or a slice for the counts that

@@ -21,7 +21,11 @@ use Rattle.stream.specs.Answer.{addAnswer, closeAnswer, closeSlice, checkAnswer
 use Rattle.stream.specs.Promise.{AddPromise}
 use Rattle.stream.proofs.Number.{adds-none, added-by, refused-by}
 use Rattle.message.specs.Answer.{tagAnswer, tagSlice, verdict}
-use Rattle.hex.specs.Line.{decodeAnswer, decodeSpace}
+use Rattle.hex.specs.declared.LineAnswer.{LineAnswer}
+use Rattle.hex.specs.Line.{decoded, encoded}
+use Rattle.hex.specs.Answer.{decodeNumber, encodeNumber, writtenAnswer, writtenSpace}
+use Rattle.hex.specs.Promise.{Writes}
+use Rattle.hex.proofs.Told.{unwritten}
 use Rattle.keyline.specs.KeyLine.{keyLineAnswer}
 use Rattle.frame.specs.Frame.{frameAnswer}
 use Rattle.lines.specs.Reader.{closing}
@@ -31,7 +35,7 @@ use Rattle.session.specs.declared.State.{State}
 use Rattle.session.specs.declared.Stepped.{Stepped}
 use Rattle.session.specs.Session.{begun, readerOf, stateOf, over}
 use Rattle.session.specs.Promise.{takenOf, saidOver, stepAnswer, StepPromise}
-use Rattle.demands.specs.One.{Answers, Refusals, Demand1}
+use Rattle.demands.specs.One.{Answers, Refusals, RefusalsOfLinesAndFrames, Demand1}
 use Rattle.demands.proofs.Cutting.{added-none}
 use Rattle.demands.proofs.Frames as of-frames
 use Rattle.demands.proofs.KeySet.{refused-keys}
@@ -53,6 +57,10 @@ stepped s part space =
     let said = saidOver s part n in
     (stepAnswer s part n, said ++ drop (length said) space, (refl, refl))
 
+-- what a call that writes in a space answers, and what the space then holds
+wrote : (space : List ℕ) (n : ℕ) (x : List ℕ) → (r : LineAnswer) × (after : List ℕ) × Writes n x space r after
+wrote space n x = (writtenAnswer n x, writtenSpace space n x, (refl, refl))
+
 answers : Answers
 answers = record {
   makes-keys = λ order bits K L. (keyAnswer order bits K L, refl);
@@ -62,7 +70,8 @@ answers = record {
   checks = λ k s l. (checkAnswer k s l, refl);
   tags = λ k M l. (tagAnswer k M (length l), tagSlice k M l, (refl, refl));
   verifies = λ k M l. (verdict k M l, refl);
-  decodes = λ line space. (decodeAnswer (length space) line, decodeSpace line space, (refl, refl));
+  decodes = λ line space. wrote space (decodeNumber (length space) line) (decoded line);
+  encodes = λ bytes space. wrote space (encodeNumber (length space) bytes) (encoded bytes);
   reads = λ line. (keyLineAnswer line, refl);
   judges = λ k f. (frameAnswer k f, refl);
   opens = of-frames.opens;
@@ -84,7 +93,12 @@ refusals = record {
   tag-refused = λ k M l after r e h. making-leaves _ _ l after r (e .0) (e .1) h;
   check-refused = λ k s l r e a b. checking-leaves _ (k .bits) l _ r e a b;
   verify-refused = λ k M l r e a b. checking-leaves _ (k .bits) l _ r e a b;
-  decode-refused = of-lines.decode-refused;
+}
+
+refusals-of-lines-and-frames : RefusalsOfLinesAndFrames
+refusals-of-lines-and-frames = record {
+  decode-refused = λ line space after r e h. unwritten _ _ space e h;
+  encode-refused = λ bytes space after r e h. unwritten _ _ space e h;
   key-line-refused = of-lines.key-line-refused;
   judge-refused = of-frames.judge-refused;
   frame-line-refused = of-frames.frame-line-refused;
@@ -96,4 +110,10 @@ refusals = record {
 
 -- DEMAND 1
 pub demand-1 : Demand1
-demand-1 = record { answers = answers; numbers = numbers; refusals = refusals; add-nothing = nothing-added }
+demand-1 = record {
+  answers = answers;
+  numbers = numbers;
+  refusals = refusals;
+  refusals-of-lines-and-frames = refusals-of-lines-and-frames;
+  add-nothing = nothing-added;
+}

@@ -20,20 +20,23 @@ use Rattle.pcmac.specs.Taggen.{keysOf, stepOf, chained, sealed}
 use Rattle.keys.specs.declared.KeyAnswer.{KeyAnswer}
 use Rattle.keys.specs.declared.KeySet.{KeySet}
 use Rattle.keys.specs.KeysIn.{keysIn}
-use Rattle.keys.specs.SetNumber.{setNumber}
+use Rattle.keys.specs.SetNumber.{bitsNumber, setNumber}
 use Rattle.tag.specs.declared.TagAnswer.{TagAnswer}
 use Rattle.tag.specs.Answer.{madeTag, checkedTag}
+use Rattle.tag.specs.Fault.{sizeNumber}
 use Rattle.tag.specs.Tag.{tagBytes}
 use Rattle.tag.proofs.Answered.{making-is, making-number, checking-is, making-same, slice-same, checking-same}
 use Rattle.judge.specs.declared.Stream.{Stream}
 use Rattle.judge.specs.Stream.{started, formed, heldOf, viewOf, streamOf}
-use Rattle.judge.specs.Fault.{sizeNumber, streamNumber, emptyNumber}
+use Rattle.judge.specs.Fault.{streamNumber, emptyNumber}
 use Rattle.judge.proofs.Total.{total}
 use Rattle.stream.specs.declared.Added.{Added}
 use Rattle.stream.specs.Answer.{closed as closed-stream}
 use Rattle.stream.specs.Answer.{addNumber, addedTo, closeNumber}
 use Rattle.stream.specs.Promise.{StartPromise, AddPromise, CheckPromise}
-use Rattle.stream.proofs.Number.{Adds, adds}
+use Rattle.stream.proofs.Number.{Adds, adds, adds-none}
+use Rattle.stream.proofs.Adding.{added-total}
+use Rattle.judge.proofs.Held.{Fine}
 use Rattle.message.specs.Answer.{verdict}
 use Rattle.message.specs.Promise.{VerifyPromise}
 use Rattle.frame.specs.declared.FrameAnswer.{FrameAnswer}
@@ -47,6 +50,7 @@ use Rattle.demands.proofs.KeySet.{made-taken}
 use Rattle.demands.proofs.Numbers.{checking-by}
 use Rattle.laws.proofs.Cases.{none-or-some}
 use Rattle.demands.proofs.When.{no-fault}
+use Rattle.demands.proofs.Cutting.{fine-added}
 use Rattle.demands.proofs.Whole.{fine-start, parts-added, parts-alike}
 use Rattle.stream.proofs.Number.{added-by, refused-by}
 
@@ -61,15 +65,42 @@ counts-are k K L M t e =
       ap (λ (x : Stream). x .four) e ∙ v .four-is ∙ sym (w .four-is),
     )
 
+-- a stream that has taken parts from the start, under a key set that the key call answers: it has taken the message that they make, and
+-- is well formed
+module _ (order size : ℕ) (K L : List ℕ) (parts : List (List ℕ)) (s t : Stream) (made : KeyAnswer) (m : Made order size K L made)
+    (fits : length (joined parts) ≤ 1048576) (e : StartPromise s) (all : AddedAll (made .keys) s parts t) where
+  room : 0 + length (joined parts) ≤ 1048576
+  room = rw zero-add fits
+
+  taken-all : t ≡ addedTo (made .keys .order) (stepOf (keysIn (made .keys))) started (joined parts)
+  taken-all = parts-added (made .keys) started parts t (made-taken m) (fine-start (made .keys .order)) room (rw e at all)
+
+  total-all : t .total ≡ length (joined parts)
+  total-all =
+      ap (λ (x : Stream). x .total) taken-all
+      ∙ added-total (made .keys .order) (stepOf (keysIn (made .keys))) started (joined parts) ∙ zero-add (length (joined parts))
+
+  fine-all : Fine (made .keys .order) t
+  fine-all =
+      rw taken-all (fine-added (fine-start (made .keys .order)) (stepOf (keysIn (made .keys))) (joined parts) room)
+
+-- one part more is answered 0
+part-added : (order size : ℕ) (K L : List ℕ) (parts : List (List ℕ)) (part : List ℕ) (s t : Stream) (a : Added) (made : KeyAnswer)
+    → Made order size K L made → length (joined parts) + length part ≤ 1048576 → StartPromise s → AddedAll (made .keys) s parts t
+    → AddPromise (made .keys) t part a → a .number ≡ 0
+part-added order size K L parts part s t a made m fits e all p =
+    let few : length (joined parts) ≤ 1048576 = omega arith in
+    let n = total-all order size K L parts s t made m few e all in
+    let fine = fine-all order size K L parts s t made m few e all in
+    added-by (made .keys) t part a p
+    (adds-none (made .keys) t (length part) (record { set = made-taken m; form = fine .form; fits = omega arith })) .0
+
 counts-made : (order size : ℕ) (K L : List ℕ) (parts : List (List ℕ)) (s t : Stream) (made : KeyAnswer) → Made order size K L made
     → length (joined parts) ≤ 1048576 → StartPromise s → AddedAll (made .keys) s parts t
     → (t .whole ≡ chained (keysOf (made .keys .order) K L) (made .keys .order) (joined parts) .whole)
     × (t .four ≡ chained (keysOf (made .keys .order) K L) (made .keys .order) (joined parts) .four)
 counts-made order size K L parts s t made m fits e all =
-    let k = made .keys in
-    let all′ : AddedAll k started parts t = rw e at all in
-    let room : 0 + length (joined parts) ≤ 1048576 = rw zero-add fits in
-    counts-are k K L (joined parts) t (parts-added k started parts t (made-taken m) (fine-start (k .order)) room all′)
+    counts-are (made .keys) K L (joined parts) t (taken-all order size K L parts s t made m fits e all)
 
 -- a stream closed has one whole-cipher step more
 closed-adds : (k : KeySet) (s : Stream) → (closed-stream k s .whole ≡ s .whole + 1) × (closed-stream k s .four ≡ s .four)
@@ -98,7 +129,7 @@ bound-of k s p a e =
 
 -- closing's own numbers are 6 and below, so that 7 says that the tag was compared
 close-most : (k : KeySet) (s : Stream) (n : ℕ) → closeNumber k s n ≤ 6
-unfolding closeNumber setNumber sizeNumber streamNumber emptyNumber
+unfolding closeNumber setNumber bitsNumber sizeNumber streamNumber emptyNumber
 close-most k s n =
     fault-most 6 _ _
     (fault-most 6 _ _ (omega (arith, unless-most (upTo 5 (k .order)) 1))
@@ -143,6 +174,8 @@ demand-3 = record {
       (c .0 ∙ making-same (a .number) (a .tag) ∙ sym (w .0), c .1 ∙ slice-same (a .number) (a .tag) l ∙ sym (w .1));
   checked-as-whole = checked-parts;
   judged-as-parts = judged-parts;
+  part-done = part-added;
+  totals = total-all;
   counts = counts-made;
   closing-adds =
       λ k s l after r c z.

@@ -25,7 +25,8 @@ use Rattle.tag.proofs.Answered.{checking-is, checking-refused}
 use Rattle.message.specs.Answer.{messageNumber, tagged}
 use Rattle.message.specs.Promise.{VerifyPromise}
 use Rattle.message.proofs.Number.{tags-none}
-use Rattle.hex.specs.Line.{decoded, decodeNumber}
+use Rattle.hex.specs.Answer.{decodeNumber}
+use Rattle.hex.specs.Line.{decoded}
 use Rattle.frame.specs.declared.FrameAnswer.{FrameAnswer}
 use Rattle.frame.specs.Frame.{bodyOf, tagOf, frameNumber, refusedFrame, checkedFrame}
 use Rattle.frame.specs.Open.{opened, openedOr, openedAt}

@@ -16,11 +16,10 @@ use Rattle.keys.specs.declared.KeyAnswer.{KeyAnswer}
 use Rattle.keys.specs.declared.KeySet.{KeySet}
 use Rattle.keys.specs.Answer.{noSet, refusedKeys}
 use Rattle.keys.specs.Promise.{KeyCallPromise}
-use Rattle.hex.specs.declared.LineAnswer.{LineAnswer}
-use Rattle.hex.specs.Line.{isHex, decoded, decodeNumber}
-use Rattle.hex.specs.Promise.{DecodePromise}
-use Rattle.hex.proofs.Outcome.{decoded-length, number-rest}
-use Rattle.hex.proofs.Told.{is-unwritten}
+use Rattle.hex.specs.Answer.{decodeNumber}
+use Rattle.hex.specs.Line.{isHex, decoded}
+use Rattle.hex.proofs.BothWays.{decoded-length}
+use Rattle.hex.proofs.Outcome.{number-rest}
 use Rattle.keyline.specs.KeyLine.{keyLineNumber, saidKeys, keyLineAnswer}
 use Rattle.keyline.specs.Promise.{ReadPromise}
 use Rattle.frame.specs.declared.FrameAnswer.{FrameAnswer}
@@ -30,11 +29,6 @@ use Rattle.answer.specs.Line.{lineAnswer}
 use Rattle.answer.specs.Promise.{OfLinePromise}
 use Rattle.demands.proofs.KeySet.{refused-keys}
 use Rattle.laws.proofs.Cases.{none-or-some}
-
--- decoding, refused
-pub decode-refused : (line space after : List ℕ) (r : LineAnswer) → DecodePromise line space r after → (r .number ≡ 0 → ⊥)
-    → (after ≡ space) × (r .written ≡ 0)
-decode-refused line space after r e h = let u = is-unwritten line space e h in (u .left, u .none)
 
 -- the key line: its own fault is the answer, and otherwise the key call's
 module _ (line : List ℕ) (made : KeyAnswer) (e : ReadPromise line made) where

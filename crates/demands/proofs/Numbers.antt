@@ -4,7 +4,7 @@ use mathlib.Core.Path.{_≡_, refl, ap, subst, _∙_}
 use mathlib.Core.Bool.{Bool, true, false, not}
 use mathlib.Core.Logic.{inl, inr, ⊎-elim, _↔_}
 use mathlib.Core.List.{List, [], _∷_}
-use Prim.Native.Nat.{ℕ, _+_, _<_}
+use Prim.Native.Nat.{ℕ, _+_, _*_, _<_}
 use native.Mathlib.Omega.{arith}
 use lib.Dec.{eqb, ltb}
 use lib.ListN.{length, getD}
@@ -18,21 +18,23 @@ use Rattle.keys.specs.declared.KeyAnswer.{KeyAnswer}
 use Rattle.keys.specs.declared.KeySet.{KeySet}
 use Rattle.keys.specs.Answer.{keyNumber}
 use Rattle.keys.specs.Promise.{KeyCallPromise}
-use Rattle.keys.specs.SetNumber.{setNumber}
+use Rattle.keys.specs.SetNumber.{bitsNumber, setNumber}
 use Rattle.tag.specs.declared.TagAnswer.{TagAnswer}
 use Rattle.tag.specs.Answer.{checkedTag, makingAnswer, checkingAnswer}
+use Rattle.tag.specs.Fault.{sizeNumber}
 use Rattle.tag.specs.Tag.{tagBytes}
 use Rattle.tag.proofs.Answered.{checking-is, making-number, checking-number}
 use Rattle.tag.proofs.Told.{verdict-by}
 use Rattle.judge.specs.declared.Stream.{Stream}
 use Rattle.judge.specs.Stream.{formed}
-use Rattle.judge.specs.Fault.{sizeNumber, streamNumber, lengthNumber, emptyNumber}
+use Rattle.judge.specs.Fault.{streamNumber, lengthNumber, emptyNumber}
 use Rattle.stream.specs.declared.Added.{Added}
 use Rattle.stream.specs.Answer.{addNumber, closeNumber}
 use Rattle.stream.specs.Promise.{AddPromise}
 use Rattle.message.specs.Answer.{messageNumber}
-use Rattle.hex.specs.Line.{isHex, decoded, decodeNumber}
-use Rattle.hex.proofs.Told.{number-is}
+use Rattle.hex.specs.Answer.{decodeNumber, encodeNumber}
+use Rattle.hex.specs.Line.{isHex, decoded}
+use Rattle.hex.proofs.Told.{number-by, number-is}
 use Rattle.keyline.specs.KeyLine.{keyLineNumber}
 use Rattle.keyline.specs.Promise.{ReadPromise}
 use Rattle.frame.specs.declared.FrameAnswer.{FrameAnswer}
@@ -67,7 +69,7 @@ module _ {last : ℕ → Type 0} {n : ℕ} where
   -- the key set's two, and then the others
   of-set : (k : KeySet) (ns : List ℕ) {rest : Type 0} → (By (firstFault ns) last n → rest) → By (firstFault (setNumber k ∷ ns)) last n
       → (NoOrder k → n ≡ 1) × ((NoOrder k → ⊥) → (NoTagLength k → n ≡ 2) × ((NoTagLength k → ⊥) → rest))
-  unfolding setNumber
+  unfolding setNumber bitsNumber
   of-set k ns others b =
       judged 0 _ (tells-up-to 5 (k .order)) (judged 1 ns (tells-up-to 128 (k .bits)) others)
       (subst (λ (f : ℕ). By f last n) (two-first _ _ ns) b)
@@ -94,6 +96,11 @@ module _ {last : ℕ → Type 0} {n : ℕ} where
       (judged 7 _ (tells-most (length line) 510) (judged 8 _ (tells-itself (isHex line)) at-last)) b
 
 module _ {n : ℕ} where
+  of-encoding : (bytes : List ℕ) (space : ℕ) → By (encodeNumber space bytes) Done n
+      → (space < 2 * length bytes → n ≡ 3) × ((space < 2 * length bytes → ⊥) → Done n)
+  unfolding encodeNumber
+  of-encoding bytes space b = judged 2 _ (tells-most (2 * length bytes) space) at-last b
+
   of-part : (k : KeySet) (s : Stream) (p : List ℕ) → By (addNumber k s (length p)) Done n → AddGives k s p n
   unfolding addNumber streamNumber lengthNumber
   of-part k s p b =
@@ -190,6 +197,7 @@ numbers = record {
   tag-gives = λ k M l after r e. of-message k M l (making-by _ _ (e .0));
   verify-gives = λ k M l r e. of-message k M l (checking-by _ _ _ _ e);
   decode-gives = λ line space after r e. of-decoding line (length space) (by-fault (number-is line space e));
+  encode-gives = λ bytes space after r e. of-encoding bytes (length space) (by-fault (number-by _ _ _ e));
   key-line-gives = key-line-gives;
   judge-gives = λ k f r e. of-frame k f (judging-by k f e);
   frame-line-gives = λ k line r e. of-decoding line 255 (line-by k line r e) .1 (λ h. omega arith);

@@ -23,9 +23,10 @@ use Rattle.keys.specs.declared.KeySet.{KeySet}
 use Rattle.keys.specs.KeysIn.{keysIn}
 use Rattle.keys.specs.SetNumber.{setNumber}
 use Rattle.keys.proofs.SetNumber.{Taken, set-taken}
+use Rattle.tag.specs.Fault.{sizeNumber}
 use Rattle.judge.specs.declared.Stream.{Stream}
 use Rattle.judge.specs.Stream.{started, viewOf, streamOf}
-use Rattle.judge.specs.Fault.{sizeNumber, streamNumber, lengthNumber, emptyNumber}
+use Rattle.judge.specs.Fault.{streamNumber, lengthNumber, emptyNumber}
 use Rattle.judge.proofs.Faultless.{formed-stream, fits-length}
 use Rattle.judge.proofs.Held.{Fine}
 use Rattle.judge.proofs.Total.{held-none}

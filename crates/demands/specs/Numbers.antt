@@ -4,7 +4,7 @@ use mathlib.Core.Path.{_≡_}
 use mathlib.Core.Logic.{_⊎_}
 use mathlib.Core.Bool.{false}
 use mathlib.Core.List.{List}
-use Prim.Native.Nat.{ℕ, _+_, _≤_, _<_}
+use Prim.Native.Nat.{ℕ, _+_, _*_, _≤_, _<_}
 use lib.ListN.{length, getD}
 use Rattle.keys.specs.declared.KeySet.{KeySet}
 use Rattle.keys.specs.declared.KeyAnswer.{KeyAnswer}
@@ -18,7 +18,7 @@ use Rattle.stream.specs.Promise.{AddPromise, ClosePromise, CheckPromise}
 use Rattle.message.specs.Promise.{TagPromise, VerifyPromise}
 use Rattle.hex.specs.declared.LineAnswer.{LineAnswer}
 use Rattle.hex.specs.Line.{isHex, decoded}
-use Rattle.hex.specs.Promise.{DecodePromise}
+use Rattle.hex.specs.Promise.{DecodePromise, EncodePromise}
 use Rattle.keyline.specs.Promise.{ReadPromise}
 use Rattle.frame.specs.declared.FrameAnswer.{FrameAnswer}
 use Rattle.frame.specs.Promise.{JudgePromise}
@@ -123,6 +123,8 @@ pub record Numbers : Type 0 where
       → MessageGives keys M received Verdict (r .number)
   pub decode-gives : (line space after : List ℕ) (r : LineAnswer) → DecodePromise line space r after
       → (when length space < 255 give 3 otherwise LineGives line Done) (r .number)
+  pub encode-gives : (bytes space after : List ℕ) (r : LineAnswer) → EncodePromise bytes space r after
+      → (when length space < 2 * length bytes give 3 otherwise Done) (r .number)
   pub key-line-gives : (line : List ℕ) (made : KeyAnswer) → ReadPromise line made → KeyLineGives line (made .number)
   pub judge-gives : (keys : KeySet) (f : List ℕ) (r : FrameAnswer) → JudgePromise keys f r → FrameGives keys f (r .number)
   -- a frame line is decoded first, and only then judged as a frame

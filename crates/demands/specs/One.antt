@@ -21,7 +21,7 @@ use Rattle.stream.specs.Promise.{StartPromise, AddPromise, ClosePromise, CheckP
 use Rattle.message.specs.Answer.{tagged}
 use Rattle.message.specs.Promise.{TagPromise, VerifyPromise}
 use Rattle.hex.specs.declared.LineAnswer.{LineAnswer}
-use Rattle.hex.specs.Promise.{DecodePromise}
+use Rattle.hex.specs.Promise.{DecodePromise, EncodePromise}
 use Rattle.keyline.specs.Promise.{ReadPromise}
 use Rattle.frame.specs.declared.FrameAnswer.{FrameAnswer}
 use Rattle.frame.specs.Promise.{JudgePromise, OpenPromise, OpenOrPromise}
@@ -45,8 +45,9 @@ pub record Answers : Type 0 where
   -- a whole message: its tag, and the check of one
   pub tags : (keys : KeySet) (M slice : List ℕ) → (r : TagAnswer) × (after : List ℕ) × TagPromise keys M slice r after
   pub verifies : (keys : KeySet) (M received : List ℕ) → (r : TagAnswer) × VerifyPromise keys M received r
-  -- a line decoded, and a key line read
+  -- a line decoded, bytes encoded, and a key line read
   pub decodes : (line space : List ℕ) → (r : LineAnswer) × (after : List ℕ) × DecodePromise line space r after
+  pub encodes : (bytes space : List ℕ) → (r : LineAnswer) × (after : List ℕ) × EncodePromise bytes space r after
   pub reads : (line : List ℕ) → (made : KeyAnswer) × ReadPromise line made
   -- a frame judged, opened, and opened or else the table in force: at one lifetime, and at two
   pub judges : (keys : KeySet) (f : List ℕ) → (r : FrameAnswer) × JudgePromise keys f r
@@ -62,7 +63,7 @@ pub record Answers : Type 0 where
   pub finishes : (s : State) (space : List ℕ) → (r : Stepped) × (after : List ℕ) × FinishPromise s space r after
   pub is-over : (s : State) → (r : Bool) × IsOverPromise s r
 
--- the calls, refused
+-- the calls on keys, streams and messages, refused
 pub record Refusals : Type 0 where
   -- the key call: no steps, and a set of zeros
   pub keys-refused : (order bits : ℕ) (K L : List ℕ) (made : KeyAnswer) → KeyCallPromise order bits K L made
@@ -80,8 +81,14 @@ pub record Refusals : Type 0 where
       → (r .number ≡ 0 → ⊥) → (r .number ≡ 7 → ⊥) → (r .whole ≡ 0) × (r .four ≡ 0)
   pub verify-refused : (keys : KeySet) (M received : List ℕ) (r : TagAnswer) → VerifyPromise keys M received r
       → (r .number ≡ 0 → ⊥) → (r .number ≡ 7 → ⊥) → (r .whole ≡ 0) × (r .four ≡ 0)
+
+-- the calls on lines and frames, refused
+pub record RefusalsOfLinesAndFrames : Type 0 where
   -- decoding a line: each byte of the space, and no bytes counted
   pub decode-refused : (line space after : List ℕ) (r : LineAnswer) → DecodePromise line space r after → (r .number ≡ 0 → ⊥)
+      → (after ≡ space) × (r .written ≡ 0)
+  -- encoding bytes: each character of the space, and none counted
+  pub encode-refused : (bytes space after : List ℕ) (r : LineAnswer) → EncodePromise bytes space r after → (r .number ≡ 0 → ⊥)
       → (after ≡ space) × (r .written ≡ 0)
   -- the key line: no steps, and a set of zeros
   pub key-line-refused : (line : List ℕ) (made : KeyAnswer) → ReadPromise line made → (made .number ≡ 0 → ⊥)
@@ -109,6 +116,7 @@ pub record Demand1 : Type 0 where
   pub answers : Answers
   pub numbers : Numbers
   pub refusals : Refusals
+  pub refusals-of-lines-and-frames : RefusalsOfLinesAndFrames
   -- a part of no bytes, for a well-formed stream under a key set that is not refused, is done and changes nothing (its array of held
   -- bytes has sixteen, as its type says)
   pub add-nothing : (keys : KeySet) (s : Stream) (a : Added) → setNumber keys ≡ 0 → formed (keys .order) s ≡ true

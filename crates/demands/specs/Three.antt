@@ -1,5 +1,5 @@
--- DEMAND 3. A message under one key set, cut anywhere into parts, has the tag and the verdict of the whole; the counts are the
--- definition's; and a part takes no more steps than it may.
+-- DEMAND 3. A message under one key set, cut anywhere into parts, has the tag and the verdict of the whole; each part within the limit is
+-- done, and the total is the length of the parts; the counts are the definition's; and a part takes no more steps than it may.
 -- Assumes nothing.
 use mathlib.Core.Path.{_≡_}
 use mathlib.Core.List.{List}
@@ -36,6 +36,13 @@ pub record Demand3 : Type 0 where
       → Frame (keys .bits) f → joined parts ≡ take (bodyEnd (keys .bits) f) f → StartPromise s → AddedAll keys s parts t
       → JudgePromise keys f r → CheckPromise keys t (drop (bodyEnd (keys .bits) f) f) r′
       → (r .number ≡ r′ .number) × (r .whole ≡ r′ .whole) × (r .four ≡ r′ .four)
+  -- under every key set that the key call answers, each part of a message within the limit is answered 0, whichever parts came before it
+  pub part-done : (order bits : ℕ) (K L : List ℕ) (parts : List (List ℕ)) (part : List ℕ) (s t : Stream) (a : Added) (made : KeyAnswer)
+      → Made order bits K L made → length (joined parts) + length part ≤ 1048576 → StartPromise s → AddedAll (made .keys) s parts t
+      → AddPromise (made .keys) t part a → a .number ≡ 0
+  -- and the stream's total is the length of the parts so far
+  pub totals : (order bits : ℕ) (K L : List ℕ) (parts : List (List ℕ)) (s t : Stream) (made : KeyAnswer) → Made order bits K L made
+      → length (joined parts) ≤ 1048576 → StartPromise s → AddedAll (made .keys) s parts t → t .total ≡ length (joined parts)
   -- after the parts so far, whichever they are, under every key set that the key call answers, the two counts are those of Algorithm
   -- 2.2 on the blocks known not to be the last
   pub counts : (order bits : ℕ) (K L : List ℕ) (parts : List (List ℕ)) (s t : Stream) (made : KeyAnswer) → Made order bits K L made

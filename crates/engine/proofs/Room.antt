@@ -9,7 +9,7 @@ use lib.Dec.{leb}
 use lib.ListN.{length, take}
 use lib.Seq.{length-take-le, take-all}
 use borrow.Author.Tests.{le-leb, lt-leb, leb-true, eq-eqb, ne-eqb}
-use Rattle.laws.proofs.Cases.{both-holds}
+use Rattle.laws.proofs.Both.{both-holds}
 use Rattle.aes.specs.Cipher.{cipher}
 use Rattle.block.specs.Block.{Block, _⊕_, padded}
 use Rattle.chain.specs.declared.Chain.{Chain}

@@ -10,10 +10,10 @@ use borrow.Author.Tests.{leb-true, ltb-true, le-leb, lt-ltb, lt-leb, le-ltb}
 use Rattle.laws.specs.Agree.{both}
 use Rattle.laws.specs.Fault.{unless, firstFault}
 use Rattle.laws.specs.UpTo.{upTo}
-use Rattle.laws.proofs.Cases.{both-holds}
+use Rattle.laws.proofs.Both.{both-holds}
 use Rattle.laws.proofs.Fault.{unless-holds, unless-fails, unless-none, fault-found, fault-pass, fault-last, none-of-two}
 use Rattle.keys.specs.declared.KeySet.{KeySet}
-use Rattle.keys.specs.SetNumber.{setNumber}
+use Rattle.keys.specs.SetNumber.{bitsNumber, setNumber}
 use Rattle.keys.proofs.SetNumber.{Taken, set-taken, taken-set}
 use Rattle.tag.specs.Tag.{tagBytes}
 use Rattle.frame.specs.Frame.{longestFrame, frameNumber}
@@ -70,7 +70,7 @@ module _ (k : KeySet) (n : ℕ) where
 -- the numbers that there are
 pub number-cases : (k : KeySet) (n : ℕ)
     → (frameNumber k n ≡ 0) ⊎ (frameNumber k n ≡ 1) ⊎ (frameNumber k n ≡ 2) ⊎ (frameNumber k n ≡ 8)
-unfolding frameNumber setNumber firstFault unless
+unfolding frameNumber setNumber bitsNumber firstFault unless
 number-cases k n = by (upTo 5 (k .order)) (upTo 128 (k .bits)) (measured k n)
   where
     by : (a b c : Bool)

@@ -9,7 +9,7 @@ use Rattle.laws.specs.Agree.{both}
 use Rattle.laws.specs.Fault.{unless, firstFault}
 use Rattle.laws.specs.Pick.{pick}
 use Rattle.keys.specs.declared.KeySet.{KeySet}
-use Rattle.keys.specs.Numbers.{done, badLength}
+use Rattle.numbers.specs.Numbers.{done, badLength}
 use Rattle.keys.specs.SetNumber.{setNumber}
 use Rattle.tag.specs.declared.TagAnswer.{TagAnswer}
 use Rattle.tag.specs.Answer.{checkedTag}

@@ -7,9 +7,9 @@
 ghost use mathlib.Core.Path.{_≡_};
 ghost use Rattle.frame.specs.Frame.{frameNumber};
 ghost use Rattle.frame.specs.Promise.{RefusedPromise, JudgePromise, OpenPromise, OpenOrPromise};
-use keys::BAD_LENGTH;
-use keys::DONE;
 use keys::KeySet;
+use numbers::BAD_LENGTH;
+use numbers::DONE;
 
 // The most bytes of a frame.
 const LONGEST: usize = 255;

@@ -1,94 +1,122 @@
--- What a character stands for by where it lies, what a pair of them stands for, and how large a value is.
+-- What a character stands for, and the character that stands for a value: each undoes the other, and the code reckons both. By tests over
+-- all 256 characters and over all 16 values.
 -- Assumes nothing.
-use mathlib.Core.Path.{_≡_, refl, sym, ap, ap₂, _∙_}
+use mathlib.Core.Path.{_≡_, refl, ap, sym, _∙_}
 use mathlib.Core.Bool.{Bool, true, false}
-use mathlib.Core.Logic.{_⊎_, inl, inr}
-use Prim.Native.Nat.{ℕ, _+_, _-_, _*_, _≤_, _<_}
+use mathlib.Core.Logic.{⊎-elim}
+use Prim.Native.Nat.{ℕ, _+_, _*_, _/_, _%_, _≤_, _<_}
 use native.Mathlib.Omega.{arith}
-use lib.Dec.{eqb, leb}
-use borrow.Author.Tests.{le-leb, lt-leb, leb-true}
-use Rattle.laws.specs.Agree.{both}
+use lib.Bits.{bitAnd, bitOr}
+use lib.Dec.{T, eqb, ltb}
+use mir.Val.{boolByte}
+use borrow.Author.Tests.{le-leb, lt-leb, eq-eqb, ne-eqb}
+use Rattle.laws.specs.Agree.{agree}
 use Rattle.laws.specs.Pick.{pick}
-use Rattle.laws.proofs.Cases.{both-holds}
+use Rattle.laws.proofs.Agree.{agreed}
+use Rattle.laws.proofs.Cases.{below-or-not}
 use Rattle.hex.specs.declared.Read.{Read}
 use Rattle.hex.specs.declared.Read.the-variants.{Value, Bad}
-use Rattle.hex.specs.Digit.{digitOf, halves, pairOf, readNumber, readValue}
+use Rattle.hex.specs.Digit.{digitOf, readNumber, readValue, isDigit, valueOf, characterOf}
+use Rattle.hex.specs.Inner.{strange}
 
--- a range, by its lower bound first
-module _ (low c high : ℕ) where
-  pub range-below : c < low → leb low c ≡ both (leb low c) (leb c high)
-  range-below h = rw (lt-leb low c h)
-
-  pub range-rest : low ≤ c → leb c high ≡ both (leb low c) (leb c high)
-  range-rest h = rw (le-leb low c h)
-
-  -- what it tells
-  pub range-facts : {t : Bool} → t ≡ both (leb low c) (leb c high) → t ≡ true → (low ≤ c) × (c ≤ high)
-  range-facts e h =
-      let f = both-holds (leb low c) (leb c high) (sym e ∙ h) in
-      (leb-true low c (f .0), leb-true c high (f .1))
-
--- a character by the two ranges in which it may lie
-module _ (c : ℕ) {s : Bool} (es : s ≡ both (leb 48 c) (leb c 57)) where
-  pub digit-number : s ≡ true → Value (c - 48) ≡ digitOf c
-  unfolding digitOf
-  digit-number h = rw (sym es ∙ h)
-
-  module _ {t : Bool} (et : t ≡ both (leb 65 c) (leb c 70)) where
-    pub digit-letter : s ≡ false → t ≡ true → Value (c - 65 + 10) ≡ digitOf c
-    unfolding digitOf
-    digit-letter h k = rw (sym es ∙ h, sym et ∙ k)
-
-    pub digit-none : s ≡ false → t ≡ false → Bad ≡ digitOf c
-    unfolding digitOf
-    digit-none h k = rw (sym es ∙ h, sym et ∙ k)
-
--- a half is below 16
-pub half-small : (c : ℕ) {v : ℕ} → digitOf c ≡ Value v → v < 16
+-- G and whatever stands behind it, the lower case letters too, is no digit
+pub beyond : (c : ℕ) → 71 ≤ c → digitOf c ≡ Bad
 unfolding digitOf
-half-small c {v} e = by (both (leb 48 c) (leb c 57)) (both (leb 65 c) (leb c 70)) refl refl e
+beyond c h = rw (le-leb 48 c (omega arith), lt-leb c 57 (omega arith), le-leb 65 c (omega arith), lt-leb c 70 (omega arith))
+
+-- so a digit is one of the 256 characters
+digit-below : (c : ℕ) → isDigit c ≡ true → c < 256
+unfolding readNumber
+digit-below c d = ⊎-elim (λ h. h) (λ h. absurd (none h)) (below-or-not c 256)
   where
-    by : (s t : Bool) → both (leb 48 c) (leb c 57) ≡ s → both (leb 65 c) (leb c 70) ≡ t
-        → pick s (Value (c - 48)) (pick t (Value (c - 65 + 10)) Bad) ≡ Value v → v < 16
-    by true t p q z =
-        let f = range-facts 48 c 57 (sym p) refl in
-        let w : c - 48 ≡ v = cc in
+    none : 256 ≤ c → ⊥
+    none h =
+        let e : isDigit c ≡ false = ap (λ (r : Read). eqb (readNumber r) 0) (beyond c (omega arith)) in
+        let z : _≡_ {A = ℕ} 0 1 = cc in
         omega arith
-    by false true p q z =
-        let f = range-facts 65 c 70 (sym q) refl in
-        let w : c - 65 + 10 ≡ v = cc in
-        omega arith
-    by false false p q z = absurd (let w : _≡_ {A = ℕ} 0 1 = cc in omega arith)
 
--- a pair of halves, from what was found of each: the low one is not looked at where the high one is none
-module _ (high low : ℕ) {h : Read} (eh : h ≡ digitOf high) where
-  pub pair-high : h ≡ Bad → Bad ≡ pairOf high low
-  unfolding halves
-  pair-high e = ap (λ (x : Read). halves x (digitOf low)) (sym e ∙ eh)
+-- the tests of the definitions
+module _ (c : ℕ) (h : c < 256) where
+  character-test : pick (isDigit c) (characterOf (valueOf c)) c ≡ c
+  unfolding digitOf readNumber readValue
+  character-test = agreed (λ x. pick (isDigit x) (characterOf (valueOf x)) x) (λ x. x) 256 tt c h
 
-  pub pair-low : {l : Read} {v : ℕ} → h ≡ Value v → l ≡ digitOf low → l ≡ Bad → Bad ≡ pairOf high low
-  unfolding halves
-  pair-low {l} {v} e el f = ap₂ halves (sym e ∙ eh) (sym f ∙ el)
+  half-test : valueOf c / 16 ≡ 0
+  unfolding digitOf readNumber readValue
+  half-test = agreed (λ x. valueOf x / 16) (λ x. 0) 256 tt c h
 
-  pub pair-both : {l : Read} {v w : ℕ} → h ≡ Value v → l ≡ digitOf low → l ≡ Value w → Value (16 * v + w) ≡ pairOf high low
-  unfolding halves
-  pair-both e el f = ap₂ halves (sym e ∙ eh) (sym f ∙ el)
+-- the value of a digit, as the code reckons it from four numbers that pass the test
+abbrev reckoned : ℕ → ℕ → ℕ → ℕ → ℕ → ℕ
+reckoned low high short all c = pick (isDigit c) ((c % low + c / high * short) % all) 0
 
--- a pair that is none has a half that is none
-pub pair-none : (h l : Read) → halves h l ≡ Bad → (eqb (readNumber h) 0 ≡ false) ⊎ (eqb (readNumber l) 0 ≡ false)
-unfolding halves readNumber
-pair-none (Value h) (Value l) e = absurd (let z : _≡_ {A = ℕ} 0 1 = cc in omega arith)
-pair-none (Value h) Bad e = inr refl
-pair-none Bad l e = inl refl
+pub value-reckoned : (low high short all : ℕ) → T (agree (reckoned low high short all) valueOf 256) → (c : ℕ) → isDigit c ≡ true
+    → (c % low + c / high * short) % all ≡ valueOf c
+value-reckoned low high short all t c d =
+    rw d at (agreed (reckoned low high short all) valueOf 256 t c (digit-below c d))
 
--- a pair that has a value has both halves
-pub pair-some : (h l : Read) {v : ℕ} → halves h l ≡ Value v → (eqb (readNumber h) 0 ≡ true) × (eqb (readNumber l) 0 ≡ true)
-unfolding halves readNumber
-pair-some (Value h) (Value l) e = (refl, refl)
-pair-some (Value h) Bad e = absurd (let z : _≡_ {A = ℕ} 0 1 = cc in omega arith)
-pair-some Bad l e = absurd (let z : _≡_ {A = ℕ} 0 1 = cc in omega arith)
+-- whether a character is strange, as the code finds it between four bounds that pass the test
+abbrev outside : ℕ → ℕ → ℕ → ℕ → ℕ → ℕ
+outside first last a f c =
+    bitAnd (bitOr (boolByte (ltb c first)) (boolByte (ltb last c))) (bitOr (boolByte (ltb c a)) (boolByte (ltb f c)))
 
--- the value is the one that was found
-pub pair-value : {r : Read} {v : ℕ} → r ≡ Value v → v ≡ readValue r
+pub strange-found : (first last a f : ℕ) → T (agree (outside first last a f) strange 256) → (c : ℕ) → c < 256
+    → bitAnd (bitOr (boolByte (ltb c first)) (boolByte (ltb last c))) (bitOr (boolByte (ltb c a)) (boolByte (ltb f c))) ≡ strange c
+strange-found first last a f t c h = agreed (outside first last a f) strange 256 t c h
+
+-- a value is below 16
+pub value-small : (c : ℕ) → valueOf c < 16
 unfolding readValue
-pair-value e = rw e
+value-small c =
+    ⊎-elim (λ h. omega (arith, half-test c h)) (λ h. rw (beyond c (omega arith)) (omega arith)) (below-or-not c 256)
+
+-- the character of a digit's value is that digit
+pub character-value : (c : ℕ) → isDigit c ≡ true → characterOf (valueOf c) ≡ c
+character-value c d = rw d at (character-test c (digit-below c d))
+
+module _ (v : ℕ) (h : v < 16) where
+  -- the value of a value's character is that value
+  pub value-character : valueOf (characterOf v) ≡ v
+  unfolding digitOf readValue
+  value-character = agreed (λ x. valueOf (characterOf x)) (λ x. x) 16 tt v h
+
+  -- which is a digit
+  pub character-digit : isDigit (characterOf v) ≡ true
+  unfolding digitOf readNumber
+  character-digit = eq-eqb (readNumber (digitOf (characterOf v))) 0 (agreed (λ x. readNumber (digitOf (characterOf x))) (λ x. 0) 16 tt v h)
+
+-- the character of a value, as the code reckons it from three numbers that pass the test
+pub character-reckoned : (first ten gap : ℕ) → T (agree (λ x. first + x + x / ten * gap) characterOf 16) → (v : ℕ) → v < 16
+    → first + v + v / ten * gap ≡ characterOf v
+character-reckoned first ten gap t v h = agreed (λ x. first + x + x / ten * gap) characterOf 16 t v h
+
+-- what is read, by its number
+read-value : (r : Read) → eqb (readNumber r) 0 ≡ true → Value (readValue r) ≡ r
+unfolding readNumber readValue
+read-value (Value v) e = refl
+read-value Bad e = absurd (let z : _≡_ {A = ℕ} 0 1 = cc in omega arith)
+
+read-bad : (r : Read) → eqb (readNumber r) 0 ≡ false → Bad ≡ r
+unfolding readNumber
+read-bad (Value v) e = absurd (let z : _≡_ {A = ℕ} 0 1 = cc in omega arith)
+read-bad Bad e = refl
+
+-- the test of a character, by what was found strange in it
+pub strange-test : (c : ℕ) → eqb (strange c) 0 ≡ isDigit c
+strange-test c = by (isDigit c)
+  where
+    by : (t : Bool) → eqb (pick t 0 1) 0 ≡ t
+    by true = refl
+    by false = refl
+
+-- and so what it stands for
+module _ (c : ℕ) {f : ℕ} (e : f ≡ strange c) where
+  tested : isDigit c ≡ eqb f 0
+  tested = sym (strange-test c) ∙ ap (λ (x : ℕ). eqb x 0) (sym e)
+
+  pub digit-value : f ≡ 0 → {v : ℕ} → (isDigit c ≡ true → v ≡ valueOf c) → Value v ≡ digitOf c
+  digit-value z q =
+      let d : isDigit c ≡ true = tested ∙ eq-eqb f 0 z in
+      ap (λ (x : ℕ). Value x) (q d) ∙ read-value (digitOf c) d
+
+  pub digit-bad : (f ≡ 0 → ⊥) → Bad ≡ digitOf c
+  digit-bad h = read-bad (digitOf c) (tested ∙ ne-eqb f 0 h)

@@ -1,5 +1,7 @@
+pub mod BothWays
 pub mod Digits
+pub mod Judging
 pub mod Outcome
-pub mod Reading
 pub mod Refuted
 pub mod Told
+pub mod Writing

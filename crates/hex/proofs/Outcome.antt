@@ -1,22 +1,17 @@
--- What decoding a line answers, by the first fault of the line and its space, or by the bytes that were laid down.
+-- What decoding and encoding answer and write, by the first fault, or by what was laid in the space.
 -- Assumes nothing.
-use mathlib.Core.Path.{_≡_, refl, ap, ap₂, sym, _∙_}
+use mathlib.Core.Path.{_≡_, refl, ap, sym, _∙_}
 use mathlib.Core.List.{List, _++_}
-use Prim.Native.Nat.{ℕ, _/_, _≤_, _<_}
+use Prim.Native.Nat.{ℕ, _*_, _≤_, _<_}
 use native.Mathlib.Omega.{arith}
 use lib.ListN.{length, drop}
 use borrow.Author.Tests.{le-leb, lt-leb, eq-eqb, ne-eqb}
 use Rattle.laws.specs.Fault.{unless}
-use Rattle.laws.proofs.Agree.{table-length}
 use Rattle.laws.proofs.Fault.{unless-holds, unless-fails, fault-found, fault-pass, fault-last}
 use Rattle.hex.specs.declared.LineAnswer.{LineAnswer}
-use Rattle.hex.specs.Line.{isHex, byteAt, decoded, decodeNumber, refusedLine, decodeAnswer, decodeSpace}
-use Rattle.hex.specs.Promise.{DecodePromise}
-
--- a byte for each pair
-pub decoded-length : (line : List ℕ) → length (decoded line) ≡ length line / 2
-unfolding decoded
-decoded-length line = table-length (byteAt line) (length line / 2)
+use Rattle.hex.specs.Line.{isHex}
+use Rattle.hex.specs.Answer.{decodeNumber, encodeNumber, refusedLine, writtenAnswer, writtenSpace}
+use Rattle.hex.specs.Promise.{Writes}
 
 -- the first fault of a line, for a space of n bytes
 module _ (n : ℕ) (line : List ℕ) where
@@ -38,24 +33,31 @@ module _ (n : ℕ) (line : List ℕ) where
         fault-pass _ (unless-holds 3 (le-leb 255 n room)) refl
         (fault-pass _ (unless-holds 8 (le-leb (length line) 510 h)) refl (fault-last e))
 
--- the outcome for a line and a space
-module _ (line space : List ℕ) where
+-- the fault of a space of n bytes, for the characters of bytes
+module _ (n : ℕ) (bytes : List ℕ) where
+  pub number-room : 2 * length bytes ≤ n → 0 ≡ encodeNumber n bytes
+  unfolding encodeNumber
+  number-room h = fault-last (unless-holds 3 (le-leb (2 * length bytes) n h))
+
+  pub number-cramped : n < 2 * length bytes → 3 ≡ encodeNumber n bytes
+  unfolding encodeNumber
+  number-cramped h = fault-last (unless-fails 3 (lt-leb (2 * length bytes) n h))
+
+-- the outcome of writing x, by the number n of the first fault
+module _ (n : ℕ) (x space : List ℕ) where
   -- refused: the answer is the refusal, and the space as it was
-  pub decode-refused : {k : ℕ} {r : LineAnswer} → k ≡ decodeNumber (length space) line → (k ≡ 0 → ⊥) → r ≡ refusedLine k
-      → DecodePromise line space r space
-  unfolding decodeAnswer decodeSpace
-  decode-refused {k} e h q =
-      let fails = ne-eqb (decodeNumber (length space) line) 0 (λ z. h (e ∙ z)) in
+  pub writes-refused : {k : ℕ} {r : LineAnswer} → k ≡ n → (k ≡ 0 → ⊥) → r ≡ refusedLine k → Writes n x space r space
+  unfolding writtenAnswer writtenSpace
+  writes-refused e h q =
+      let fails = ne-eqb n 0 (λ z. h (e ∙ z)) in
       (q ∙ rw fails (ap refusedLine e), rw fails)
 
-  -- no fault: 0, the count of the bytes, and the bytes over the front of the space
-  pub decode-done : {x after : List ℕ} → 0 ≡ decodeNumber (length space) line → x ≡ decoded line
-      → after ≡ x ++ drop (length line / 2) space
-      → DecodePromise line space (record { number = 0; written = length line / 2 }) after
-  unfolding decodeAnswer decodeSpace
-  decode-done e f q =
-      let holds = eq-eqb (decodeNumber (length space) line) 0 (sym e) in
-      let size = sym (decoded-length line) in (
-        rw holds (ap (λ (n : ℕ). record { number = 0; written = n }) size),
-        q ∙ rw holds (ap₂ (λ (x : List ℕ) (n : ℕ). x ++ drop n space) f size),
+  -- no fault: 0, how much it is, and x over the front of the space
+  pub writes-done : {w : ℕ} {after : List ℕ} → 0 ≡ n → w ≡ length x → after ≡ x ++ drop w space
+      → Writes n x space (record { number = 0; written = w }) after
+  unfolding writtenAnswer writtenSpace
+  writes-done e size q =
+      let holds = eq-eqb n 0 (sym e) in (
+        rw holds (ap (λ (w : ℕ). record { number = 0; written = w }) size),
+        q ∙ rw holds (ap (λ (w : ℕ). x ++ drop w space) size),
       )

@@ -1,10 +1,11 @@
--- The characters of a hexadecimal line: what each stands for, and a pair of them.
+-- The characters of a hexadecimal line: what value each stands for, and what character stands for a value.
 -- Assumes nothing.
-use Prim.Native.Nat.{ℕ, _+_, _-_, _*_}
-use lib.Dec.{leb}
+use mathlib.Core.Bool.{Bool}
+use Prim.Native.Nat.{ℕ, _+_, _-_}
+use lib.Dec.{eqb, leb, ltb}
 use Rattle.laws.specs.Agree.{both}
 use Rattle.laws.specs.Pick.{pick}
-use Rattle.keys.specs.Numbers.{done, notHex}
+use Rattle.numbers.specs.Numbers.{done, notHex}
 use Rattle.hex.specs.declared.Read.{Read}
 use Rattle.hex.specs.declared.Read.the-variants.{Value, Bad}
 
@@ -12,16 +13,6 @@ use Rattle.hex.specs.declared.Read.the-variants.{Value, Bad}
 unfoldable pub digitOf : ℕ → Read
 digitOf c =
     pick (both (leb 48 c) (leb c 57)) (Value (c - 48)) (pick (both (leb 65 c) (leb c 70)) (Value (c - 65 + 10)) Bad)
-
--- what a high and a low half make: a byte, where both have a value
-unfoldable pub halves : Read → Read → Read
-halves (Value h) (Value l) = Value (16 * h + l)
-halves (Value h) Bad = Bad
-halves Bad l = Bad
-
--- what a pair of characters stands for, high half first
-abbrev pub pairOf : ℕ → ℕ → Read
-pairOf high low = halves (digitOf high) (digitOf low)
 
 -- the number of each case: a value is no fault, and otherwise it is 9
 unfoldable pub readNumber : Read → ℕ
@@ -32,3 +23,15 @@ readNumber Bad = notHex
 unfoldable pub readValue : Read → ℕ
 readValue (Value v) = v
 readValue Bad = 0
+
+-- a character is a digit
+abbrev pub isDigit : ℕ → Bool
+isDigit c = eqb (readNumber (digitOf c)) done
+
+-- the value that it stands for
+abbrev pub valueOf : ℕ → ℕ
+valueOf c = readValue (digitOf c)
+
+-- and the character that stands for a value below 16
+abbrev pub characterOf : ℕ → ℕ
+characterOf v = pick (ltb v 10) (48 + v) (65 + (v - 10))

@@ -1,3 +1,4 @@
+pub mod Answer
 pub mod Digit
 pub mod Inner
 pub mod Line

@@ -4,34 +4,19 @@ use mathlib.Core.Path.{_≡_}
 use mathlib.Core.Bool.{false}
 use Prim.Native.Nat.{ℕ, _-_, _*_, _≤_}
 use native.Mathlib.Omega.{arith}
-use lib.Dec.{eqb, leb}
-use borrow.Author.Tests.{leb-true, le-leb, eqb-true, eq-eqb, ne-eqb}
-use Rattle.laws.proofs.Fault.{unless-holds, unless-fails, unless-none}
+use lib.Dec.{leb}
+use borrow.Author.Tests.{leb-true, le-leb}
+use Rattle.laws.proofs.Fault.{unless-holds, unless-none}
 use Rattle.laws.proofs.Up.{up-most}
 use Rattle.block.specs.Block.{blocks}
 use Rattle.chain.specs.Count.{wholeFor}
 use Rattle.chain.specs.Stream.{settled}
 use Rattle.pcmac.specs.Limits.{messageLimit}
-use Rattle.tag.specs.Tag.{tagBytes}
 use Rattle.judge.specs.declared.Stream.{Stream}
 use Rattle.judge.specs.Stream.{formed}
-use Rattle.judge.specs.Fault.{sizeNumber, streamNumber, lengthNumber, emptyNumber}
+use Rattle.judge.specs.Fault.{streamNumber, lengthNumber, emptyNumber}
 use Rattle.judge.proofs.Formed.{Formed, is-formed, formed-is}
 use Rattle.judge.proofs.Total.{total}
-
--- the slice has just the bytes of a tag
-pub size-fits : (bits n : ℕ) → sizeNumber bits n ≡ 0 → n ≡ tagBytes bits
-unfolding sizeNumber
-size-fits bits n e = eqb-true n (tagBytes bits) (unless-none 2 (eqb n (tagBytes bits)) e)
-
-pub fits-size : (bits n : ℕ) → n ≡ tagBytes bits → 0 ≡ sizeNumber bits n
-unfolding sizeNumber
-fits-size bits n h = unless-holds 3 (eq-eqb n (tagBytes bits) h)
-
--- and of another size gives 3
-pub other-size : (bits n : ℕ) → (n ≡ tagBytes bits → ⊥) → 3 ≡ sizeNumber bits n
-unfolding sizeNumber
-other-size bits n h = unless-fails 3 (ne-eqb n (tagBytes bits) h)
 
 -- the stream is well formed
 pub stream-formed : (d : ℕ) (s : Stream) → streamNumber d s ≡ 0 → Formed d s

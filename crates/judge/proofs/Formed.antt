@@ -8,7 +8,7 @@ use lib.Dec.{leb, eqb}
 use lib.ListN.{drop}
 use borrow.Author.Tests.{leb-true, eqb-true, le-leb, lt-leb, eq-eqb}
 use Rattle.laws.specs.Pick.{pick}
-use Rattle.laws.proofs.Cases.{both-holds}
+use Rattle.laws.proofs.Both.{both-holds}
 use Rattle.chain.specs.Count.{wholeFor, fourFor}
 use Rattle.pcmac.specs.Limits.{messageLimit}
 use Rattle.judge.specs.declared.Stream.{Stream}

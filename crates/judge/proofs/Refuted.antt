@@ -10,20 +10,11 @@ use Rattle.laws.specs.Fault.{unless}
 use Rattle.laws.proofs.Fault.{fault-found, fault-pass, fault-last}
 use Rattle.chain.specs.Count.{wholeFor}
 use Rattle.pcmac.specs.Limits.{messageLimit}
-use Rattle.tag.specs.Tag.{tagBytes}
 use Rattle.judge.specs.declared.Stream.{Stream}
 use Rattle.judge.specs.Fault.{emptyNumber}
-use Rattle.judge.specs.Promise.{SizeFaultPromise, StreamFaultPromise, LengthFaultPromise, EmptyFaultPromise, FirstPromise}
-use Rattle.judge.proofs.Faultless.{fits-size, other-size, stream-formed, length-fits, fits-length}
+use Rattle.judge.specs.Promise.{StreamFaultPromise, LengthFaultPromise, EmptyFaultPromise, FirstPromise}
+use Rattle.judge.proofs.Faultless.{stream-formed, length-fits, fits-length}
 use Rattle.judge.proofs.Total.{total}
-
--- a slice of another size, a longer one as any, that is taken or given another number
-pub size-not-three : (bits n r : ℕ) → (n ≡ tagBytes bits → ⊥) → SizeFaultPromise bits n r → (r ≡ 3 → ⊥) → ⊥
-size-not-three bits n r h e w = w (e ∙ sym (other-size bits n h))
-
--- a slice of the right size that is refused
-pub size-refused : (bits n r : ℕ) → n ≡ tagBytes bits → SizeFaultPromise bits n r → (r ≡ 0 → ⊥) → ⊥
-size-refused bits n r h e w = w (e ∙ sym (fits-size bits n h))
 
 -- a stream that is taken
 module _ (d : ℕ) (s : Stream) (r : ℕ) (e : StreamFaultPromise d s r) (z : r ≡ 0) where

@@ -10,7 +10,7 @@ use lib.Dec.{eqb}
 use lib.ListN.{length, getD, drop, replicate, length-drop}
 use lib.Seq.{drop-cons}
 use borrow.Author.Tests.{eqb-true, eq-eqb, ne-eqb}
-use Rattle.laws.proofs.Cases.{both-holds}
+use Rattle.laws.proofs.Both.{both-holds}
 use Rattle.judge.specs.Stream.{allZero}
 
 -- behind the end there is nothing that is not zero

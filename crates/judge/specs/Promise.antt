@@ -7,15 +7,7 @@ use Prim.Native.Nat.{ℕ, _+_}
 use Rattle.laws.specs.Fault.{firstFault}
 use Rattle.laws.proofs.Once.{once}
 use Rattle.judge.specs.declared.Stream.{Stream}
-use Rattle.judge.specs.Fault.{sizeNumber, streamNumber, lengthNumber, emptyNumber}
-
--- size_fault hands back 3 where a slice is not of just the bytes of a tag, otherwise 0
-abbrev pub SizeFaultPromise : ℕ → ℕ → ℕ → Type 0
-SizeFaultPromise bits n r = r ≡ sizeNumber bits n
-
--- any two answers that size_fault may give are equal
-pub size-fault-once : (bits n r r′ : ℕ) → SizeFaultPromise bits n r → SizeFaultPromise bits n r′ → r ≡ r′
-size-fault-once bits n r r′ p q = once p q
+use Rattle.judge.specs.Fault.{streamNumber, lengthNumber, emptyNumber}
 
 -- stream_fault hands back 4 where the stream is not well formed for the order, otherwise 0
 abbrev pub StreamFaultPromise : ℕ → Stream → ℕ → Type 0

@@ -1,8 +1,8 @@
-// What is judged of what a call is handed, apart from its key set: the stream, the length of a tag
-// slice, the length of a message. Each function hands back the number of the fault, or 0.
+// What is judged of what a call is handed, apart from its key set and its tag slice: the stream, and
+// the length of a message. Each function hands back the number of the fault, or 0.
 //
-//     let fault = judge::stream_fault(2, s);   // 4 where the stream is not well formed for order 2
-//     let fault = judge::size_fault(60, 7);    // 3: a tag of 60 bits occupies 8 bytes
+//     let fault = judge::stream_fault(2, s);     // 4 where the stream is not well formed for order 2
+//     let fault = judge::length_fault(0, n);     // 5 where n bytes are too many
 ghost use mathlib.Core.Path.{_≡_};
 ghost use Prim.Native.Nat.{_≤_};
 ghost use lib.ListN.{drop};
@@ -10,13 +10,11 @@ ghost use Rattle.laws.specs.Fault.{unless};
 ghost use Rattle.chain.specs.Count.{wholeFor, fourFor};
 ghost use Rattle.chain.specs.Stream.{settled};
 ghost use Rattle.judge.specs.Stream.{heldFor, allZero, formed};
-ghost use Rattle.judge.specs.Promise.{SizeFaultPromise, StreamFaultPromise};
-ghost use Rattle.judge.specs.Promise.{LengthFaultPromise, EmptyFaultPromise, FirstPromise};
-use keys::BAD_SIZE;
-use keys::BAD_STREAM;
-use keys::DONE;
-use keys::NO_BYTES;
-use keys::TOO_LONG;
+ghost use Rattle.judge.specs.Promise.{StreamFaultPromise, LengthFaultPromise, EmptyFaultPromise, FirstPromise};
+use numbers::BAD_STREAM;
+use numbers::DONE;
+use numbers::NO_BYTES;
+use numbers::TOO_LONG;
 
 // The most bytes that a message may have.
 const MESSAGE_LIMIT: usize = 1048576;
@@ -123,13 +121,6 @@ fn unless(holds: bool, number: u8) -> u8
     ensures { λ r. ⌜ r ≡ unless holds number ⌝ }
 {
     if holds { DONE } else { number }
-}
-
-// 3: the slice of n bytes is not of just the bytes of a tag of so many bits.
-pub fn size_fault(bits: u8, n: usize) -> u8
-    ensures { λ r. ⌜ SizeFaultPromise bits n r ⌝ }
-{
-    unless(n == tag::size(bits), BAD_SIZE)
 }
 
 // 4: the stream is not well formed for the order.

@@ -13,9 +13,11 @@ use Rattle.block.proofs.Sixteen.{sixteen-whole}
 use Rattle.keys.specs.declared.KeyAnswer.{KeyAnswer}
 use Rattle.keys.specs.Answer.{refusedKeys, keyAnswer}
 use Rattle.hex.specs.declared.LineAnswer.{LineAnswer}
-use Rattle.hex.specs.Line.{decoded, decodeNumber}
+use Rattle.hex.specs.Answer.{decodeNumber}
+use Rattle.hex.specs.Line.{decoded}
 use Rattle.hex.specs.Promise.{DecodePromise}
-use Rattle.hex.proofs.Outcome.{decoded-length, number-rest}
+use Rattle.hex.proofs.BothWays.{decoded-length}
+use Rattle.hex.proofs.Outcome.{number-rest}
 use Rattle.hex.proofs.Told.{number-is, is-written}
 use Rattle.keyline.specs.KeyLine.{keyLineNumber, saidKeys, keyLineAnswer}
 

@@ -7,7 +7,7 @@ use lib.ListN.{length, getD, take, drop}
 use Rattle.laws.specs.Fault.{unless, firstFault}
 use Rattle.laws.specs.Pick.{pick}
 use Rattle.keys.specs.declared.KeyAnswer.{KeyAnswer}
-use Rattle.keys.specs.Numbers.{done, badLength, notHex}
+use Rattle.numbers.specs.Numbers.{done, badLength, notHex}
 use Rattle.keys.specs.Answer.{refusedKeys, keyAnswer}
 use Rattle.hex.specs.Line.{isHex, decoded}
 

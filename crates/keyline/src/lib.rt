@@ -5,9 +5,9 @@
 ghost use mathlib.Core.Path.{_≡_};
 ghost use Rattle.keyline.specs.KeyLine.{saidKeys};
 ghost use Rattle.keyline.specs.Promise.{ReadPromise};
-use keys::BAD_LENGTH;
-use keys::DONE;
 use keys::KeyAnswer;
+use numbers::BAD_LENGTH;
+use numbers::DONE;
 
 // A key line has this many characters: two for the order, two for the tag length, 32 for each key.
 const LENGTH: usize = 68;

@@ -13,10 +13,10 @@ use Rattle.keys.specs.declared.KeyAnswer.{KeyAnswer}
 use Rattle.keys.specs.declared.KeySet.{KeySet}
 use Rattle.keys.specs.Answer.{setOf, doneKeys, refusedKeys}
 use Rattle.keys.specs.Arrangement.{placeAt}
-use Rattle.keys.specs.Promise.{UPartPromise, XKeyPromise, RefusedPromise, KeyCallPromise, SetFaultPromise}
+use Rattle.keys.specs.Promise.{UPartPromise, XKeyPromise, RefusedPromise, KeyCallPromise, BitsFaultPromise, SetFaultPromise}
 use Rattle.keys.proofs.Arrangement.{u-within, x-within}
 use Rattle.keys.proofs.Number.{number-tag, number-none, answer-refused, answer-done}
-use Rattle.keys.proofs.SetNumber.{set-none}
+use Rattle.keys.proofs.SetNumber.{Taken, bits-none, bits-within, taken-set}
 
 -- u_part does not answer zeros for U_5 where other bytes stand at its places
 pub fifth-u-missing : (subkeys : List ℕ) (j : ℕ) (r : Block) → 1 ≤ j → j ≤ 3 → (placeAt subkeys (12 + (j - 1)) ≡ zeros → ⊥)
@@ -72,5 +72,14 @@ module _ (order bits : ℕ) (K L : List ℕ) (r : KeyAnswer) (low : order ≤ 5)
 pub tag-length-by-the-order : (k : KeySet) (r : ℕ) → 1 ≤ k .order → k .order ≤ 5 → 5 < k .bits → k .bits ≤ 128 → r ≡ 2
     → SetFaultPromise k r → ⊥
 tag-length-by-the-order k r a b c d h p =
-    let z = p ∙ sym (set-none k (up-to 5 (k .order) a b) (up-to 128 (k .bits) (omega arith) d)) in
+    let taken : Taken k = record { order = record { low = a; high = b }; tag = record { low = omega arith; high = d } } in
+    let z = p ∙ sym (taken-set k taken) in
     omega arith
+
+-- a tag length that does not exist, none or above 128 bits, and is taken
+pub no-such-length-taken : (p r : ℕ) → (1 ≤ p → p ≤ 128 → ⊥) → BitsFaultPromise p r → r ≡ 0 → ⊥
+no-such-length-taken p r h e z = let w = bits-within p (sym e ∙ z) in h (w .low) (w .high)
+
+-- one that does, and is refused
+pub length-refused : (p r : ℕ) → 1 ≤ p → p ≤ 128 → BitsFaultPromise p r → (r ≡ 0 → ⊥) → ⊥
+length-refused p r a b e w = w (e ∙ sym (bits-none p (up-to 128 p a b)))

@@ -13,7 +13,7 @@ use Rattle.pcmac.specs.Keysch.{KEYSCH}
 use Rattle.keys.specs.declared.KeySet.{KeySet}
 use Rattle.keys.specs.declared.KeyAnswer.{KeyAnswer}
 use Rattle.keys.specs.Arrangement.{arranged}
-use Rattle.keys.specs.Numbers.{done, badOrder, badTagLength, badSize}
+use Rattle.numbers.specs.Numbers.{done, badOrder, badTagLength, badSize}
 
 -- the number of the first fault, 0 where there is none, of an order, a tag length, and the lengths of K and L: 1, the order is above 5;
 -- 2, the tag length is above 128; 3, K or L is not 16 bytes

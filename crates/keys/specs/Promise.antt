@@ -9,7 +9,7 @@ use Rattle.keys.specs.declared.KeyAnswer.{KeyAnswer}
 use Rattle.keys.specs.declared.KeySet.{KeySet}
 use Rattle.keys.specs.Arrangement.{uPart, xKey}
 use Rattle.keys.specs.Answer.{refusedKeys, keyAnswer}
-use Rattle.keys.specs.SetNumber.{setNumber}
+use Rattle.keys.specs.SetNumber.{bitsNumber, setNumber}
 
 -- u_part hands back what stands at the place of U_w^(j), and zeros where w is not 1 to 5 or j not 1 to 3
 abbrev pub UPartPromise : List ℕ → ℕ → ℕ → Block → Type 0
@@ -43,6 +43,14 @@ KeyCallPromise order bits K L r = r ≡ keyAnswer order bits K L
 pub key-call-once : (order bits : ℕ) (K L : List ℕ) (r r′ : KeyAnswer) → KeyCallPromise order bits K L r
     → KeyCallPromise order bits K L r′ → r ≡ r′
 key-call-once order bits K L r r′ p q = once p q
+
+-- bits_fault hands back 2 where there is no tag of so many bits, otherwise 0
+abbrev pub BitsFaultPromise : ℕ → ℕ → Type 0
+BitsFaultPromise p r = r ≡ bitsNumber p
+
+-- any two answers that bits_fault may give are equal
+pub bits-fault-once : (p r r′ : ℕ) → BitsFaultPromise p r → BitsFaultPromise p r′ → r ≡ r′
+bits-fault-once p r r′ a b = once a b
 
 -- set_fault hands back the number of the first fault of a key set that is handed to a later call
 abbrev pub SetFaultPromise : KeySet → ℕ → Type 0

@@ -13,37 +13,12 @@ ghost use Prim.Native.Nat.{_≤_};
 ghost use Rattle.laws.specs.UpTo.{upTo};
 ghost use Rattle.pcmac.specs.Limits.{resolved};
 ghost use Rattle.keys.specs.Answer.{keyNumber, doneKeys};
-ghost use Rattle.keys.specs.Promise.{UPartPromise, XKeyPromise, RefusedPromise, KeyCallPromise, SetFaultPromise};
-
-// The numbers that a call may give, for every crate above: nothing is refused;
-pub const DONE: u8 = 0;
-
-// the order is above 5, or 0 in a key set;
-pub const BAD_ORDER: u8 = 1;
-
-// the tag length is above 128 bits, or 0 in a key set;
-pub const BAD_TAG_LENGTH: u8 = 2;
-
-// K or L is not 16 bytes, a tag slice has not just the bytes of a tag, or the space for a line is small;
-pub const BAD_SIZE: u8 = 3;
-
-// the stream is not well formed;
-pub const BAD_STREAM: u8 = 4;
-
-// the message is too long;
-pub const TOO_LONG: u8 = 5;
-
-// there are no bytes;
-pub const NO_BYTES: u8 = 6;
-
-// the tag differs;
-pub const TAG_DIFFERS: u8 = 7;
-
-// a line or a frame is not of a length that it may have;
-pub const BAD_LENGTH: u8 = 8;
-
-// a line is not of pairs of hexadecimal digits.
-pub const NOT_HEX: u8 = 9;
+ghost use Rattle.keys.specs.Promise.{UPartPromise, XKeyPromise, RefusedPromise, KeyCallPromise};
+ghost use Rattle.keys.specs.Promise.{BitsFaultPromise, SetFaultPromise};
+use numbers::BAD_ORDER;
+use numbers::BAD_SIZE;
+use numbers::BAD_TAG_LENGTH;
+use numbers::DONE;
 
 // What the order and the tag length are where 0 is given, and their highest.
 const DEFAULT_ORDER: u8 = 1;
@@ -52,7 +27,7 @@ const HIGHEST_ORDER: usize = 5;
 
 const DEFAULT_TAG: u8 = 128;
 
-const LONGEST_TAG: usize = 128;
+pub const LONGEST_TAG: usize = 128;
 
 // What tags are made and checked with. Whoever holds a key set holds both keys: round key 0 is K,
 // and doubled L gives L.
@@ -186,6 +161,17 @@ fn is_within(most: usize, n: usize) -> bool
     n <= most
 }
 
+// 2: there is no tag of so many bits.
+pub fn bits_fault(bits: u8) -> u8
+    ensures { λ r. ⌜ BitsFaultPromise bits r ⌝ }
+{
+    if is_within(LONGEST_TAG, bits as usize) {
+        DONE
+    } else {
+        BAD_TAG_LENGTH
+    }
+}
+
 // The first fault of a key set that is handed to a later call: 1, its order; 2, its tag length. No
 // other byte of it is judged.
 pub fn set_fault(keys: KeySet) -> u8
@@ -194,9 +180,5 @@ pub fn set_fault(keys: KeySet) -> u8
     if !is_within(HIGHEST_ORDER, keys.order as usize) {
         return BAD_ORDER;
     }
-    if is_within(LONGEST_TAG, keys.bits as usize) {
-        DONE
-    } else {
-        BAD_TAG_LENGTH
-    }
+    bits_fault(keys.bits)
 }

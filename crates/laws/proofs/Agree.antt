@@ -1,7 +1,6 @@
 -- What one test over all numbers below n tells of each of them, and of a table.
 -- Assumes nothing.
 use mathlib.Core.Path.{_≡_, refl, ap, subst, sym, _∙_}
-use mathlib.Core.Bool.{Bool, true, false}
 use mathlib.Core.Logic.{⊎-elim}
 use mathlib.Core.List.{List, [], _∷_, _++_}
 use Prim.Native.Nat.{ℕ, zero, suc, _+_, _≤_, _<_}
@@ -10,16 +9,8 @@ use native.Mathlib.Omega.{arith}
 use lib.Dec.{T, eqb, eqb→eq}
 use lib.ListN.{length, getD, take, drop, length-drop}
 use lib.Seq.{ext-getD, length-take-le, getD-take, getD-drop}
-use Rattle.laws.specs.Agree.{both, agree, from, table}
-
--- what both tells of each
-pub both-left : (a b : Bool) → T (both a b) → T a
-both-left true b t = tt
-both-left false b t = t
-
-pub both-right : (a b : Bool) → T (both a b) → T b
-both-right true b t = t
-both-right false b t = absurd t
+use Rattle.laws.specs.Agree.{agree, from, table}
+use Rattle.laws.proofs.Both.{both-left, both-right}
 
 -- the test holds, so the functions agree at each number below n
 pub agreed : (f g : ℕ → ℕ) (n : ℕ) → T (agree f g n) → (x : ℕ) → x < n → f x ≡ g x

@@ -7,7 +7,6 @@ use Prim.Native.Nat.{ℕ, zero, suc, _≤_, _<_}
 use native.Mathlib.Omega.{arith}
 use lib.Dec.{ltb}
 use borrow.Author.Tests.{ltb-true, ltb-false, not-true, not-false}
-use Rattle.laws.specs.Agree.{both}
 
 pub below-or-not : (a b : ℕ) → (a < b) ⊎ (b ≤ a)
 below-or-not a b = by (ltb a b) refl
@@ -31,8 +30,3 @@ test-fails {r} e h = sym e ∙ not-true r h
 -- and otherwise that it holds
 pub test-holds : {r t : Bool} → r ≡ t → not r ≡ false → t ≡ true
 test-holds {r} e h = sym e ∙ not-false r h
-
--- what two tests that both hold tell of each
-pub both-holds : (a b : Bool) → both a b ≡ true → (a ≡ true) × (b ≡ true)
-both-holds true b e = (refl, e)
-both-holds false b e = absurd (let z : _≡_ {A = ℕ} 0 1 = cc in omega arith)

@@ -6,10 +6,10 @@ use Prim.Native.Nat.{ℕ, suc, _+_, _-_, _≤_, _<_}
 use native.Mathlib.Nat.{zero-add}
 use native.Mathlib.Numerals.{add-one}
 use native.Mathlib.Omega.{arith}
-use lib.ListN.{length, getD, take, drop, set, length-drop, length-append, take-append-drop}
-use lib.Seq.{take-suc, drop-cons, length-take-le, set-at, append-snoc}
+use lib.ListN.{length, getD, take, drop, set, length-drop, length-append, take-append-drop, drop-of-length-le}
+use lib.Seq.{take-suc, take-all, drop-cons, length-take-le, set-at, append-snoc}
 
--- the first i of x's bytes stand in l from o on, and up to m may be copied
+-- s is l with the first i of x's bytes over it from o on, and up to m may be copied
 pub record Laid (x l : List ℕ) (o m : ℕ) (s : List ℕ) (i : ℕ) : Type 0 where
   pub within : i ≤ m
   pub source : m ≤ length x
@@ -75,10 +75,24 @@ front-within v h = omega (arith, laid-within v h)
 pub front-more : {x l s : List ℕ} {m i : ℕ} → Laid x l 0 m s i → i < m → Laid x l 0 m (set s i (getD x i 0)) (i + 1)
 front-more {x} {l} {s} {m} {i} v h = rw zero-add at (laid-more v h)
 
+-- by what was found to be the next one
+pub front-put : {x l s : List ℕ} {m i v : ℕ} → Laid x l 0 m s i → i < m → v ≡ getD x i 0 → Laid x l 0 m (set s i v) (i + 1)
+front-put w h e = rw e (front-more w h)
+
 pub front-same : {x l s : List ℕ} {m i : ℕ} → Laid x l 0 m s i → s ≡ take i x ++ drop i l
 front-same {x} {l} {s} {m} {i} v = v .same ∙ ap (λ (j : ℕ). take i x ++ drop j l) (zero-add i)
 
-pub front-all : {x l s : List ℕ} {m i : ℕ} → Laid x l 0 m s i → m ≤ i → s ≡ take m x ++ drop m l
+front-all : {x l s : List ℕ} {m i : ℕ} → Laid x l 0 m s i → m ≤ i → s ≡ take m x ++ drop m l
 front-all {x} {l} {s} {m} {i} v h =
     let e : i ≡ m = omega (arith, v .within) in
     front-same v ∙ ap (λ (j : ℕ). take j x ++ drop j l) e
+
+-- all of a list
+pub front-list : {x l s : List ℕ} {m i : ℕ} → Laid x l 0 m s i → m ≤ i → length x ≡ m → s ≡ x ++ drop m l
+front-list {x} {l} {s} {m} {i} v h n = front-all v h ∙ ap (λ (y : List ℕ). y ++ drop m l) (take-all m x (omega arith))
+
+-- over all of the slice
+pub front-slice : {x l s : List ℕ} {i : ℕ} → Laid x l 0 (length l) s i → length l ≤ i → s ≡ take (length l) x
+front-slice {x} {l} {s} {i} v h =
+    let end : length l ≤ length l = omega arith in
+    front-all v h ∙ ap (λ (y : List ℕ). take (length l) x ++ y) (drop-of-length-le l end) ∙ append-nil (take (length l) x)

@@ -1,4 +1,6 @@
 pub mod Agree
+pub mod BigEndian
+pub mod Both
 pub mod Bytes
 pub mod Cases
 pub mod Copied
@@ -9,6 +11,7 @@ pub mod Four
 pub mod Laid
 pub mod Lent
 pub mod Once
+pub mod Or
 pub mod Up
 pub mod UpTo
 pub mod Xor

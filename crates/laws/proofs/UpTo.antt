@@ -6,7 +6,7 @@ use Prim.Native.Nat.{ℕ, _≤_, _<_}
 use lib.Dec.{leb}
 use borrow.Author.Tests.{le-leb, lt-leb, leb-true}
 use Rattle.laws.specs.UpTo.{upTo}
-use Rattle.laws.proofs.Cases.{both-holds}
+use Rattle.laws.proofs.Both.{both-holds}
 
 module _ (most n : ℕ) where
   pub up-to : 1 ≤ n → n ≤ most → upTo most n ≡ true

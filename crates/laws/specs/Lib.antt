@@ -1,4 +1,5 @@
 pub mod Agree
+pub mod BigEndian
 pub mod Each
 pub mod Fault
 pub mod Filled

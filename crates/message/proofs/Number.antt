@@ -9,9 +9,11 @@ use Rattle.pcmac.specs.Limits.{messageLimit}
 use Rattle.keys.specs.declared.KeySet.{KeySet}
 use Rattle.keys.specs.SetNumber.{setNumber}
 use Rattle.keys.proofs.SetNumber.{Taken, set-taken, taken-set}
+use Rattle.tag.specs.Fault.{sizeNumber}
 use Rattle.tag.specs.Tag.{tagBytes}
-use Rattle.judge.specs.Fault.{sizeNumber, lengthNumber, emptyNumber}
-use Rattle.judge.proofs.Faultless.{size-fits, fits-size, other-size, length-fits, fits-length, empty-some, some-empty}
+use Rattle.tag.proofs.Number.{size-fits, fits-size, other-size}
+use Rattle.judge.specs.Fault.{lengthNumber, emptyNumber}
+use Rattle.judge.proofs.Faultless.{length-fits, fits-length, empty-some, some-empty}
 use Rattle.message.specs.Answer.{messageNumber}
 
 -- a message of m bytes may be made a tag of, in a slice of n bytes

@@ -4,14 +4,15 @@ use mathlib.Core.Path.{_≡_, ap, sym, _∙_}
 use mathlib.Core.List.{List}
 use Prim.Native.Nat.{ℕ, _<_}
 use native.Mathlib.Omega.{arith}
-use lib.ListN.{length}
+use lib.ListN.{length, take}
+use Rattle.block.specs.Bits.{bits}
 use Rattle.pcmac.specs.Limits.{messageLimit}
 use Rattle.keys.specs.declared.KeySet.{KeySet}
 use Rattle.keys.specs.SetNumber.{setNumber}
 use Rattle.tag.specs.declared.TagAnswer.{TagAnswer}
 use Rattle.tag.specs.Tag.{tagBytes}
 use Rattle.tag.proofs.Answered.{making-number}
-use Rattle.tag.proofs.Told.{making-leaves, checked-fault}
+use Rattle.tag.proofs.Told.{making-leaves, checked-fault, checked-bits}
 use Rattle.message.specs.Answer.{messageNumber, tagged}
 use Rattle.message.specs.Promise.{TagPromise, VerifyPromise}
 use Rattle.message.proofs.Number.{tags, other-slice}
@@ -43,3 +44,8 @@ pub other-size-verified : (k : KeySet) (M received : List ℕ) (r : TagAnswer) �
     → VerifyPromise k M received r → r .number ≡ 0 → ⊥
 other-size-verified k M received r h e z =
     h (tags k (length M) (length received) (checked-fault _ (k .bits) received (tagged k M) r e z) .size)
+
+-- a check that accepts other bits than the tag's: fewer of them compared, as many as the order is, or from the second byte on
+pub other-tag-verified : (k : KeySet) (M received : List ℕ) (r : TagAnswer)
+    → (take (k .bits) (bits received) ≡ tagged k M .tag → ⊥) → VerifyPromise k M received r → r .number ≡ 0 → ⊥
+other-tag-verified k M received r h e z = h (checked-bits _ (k .bits) received (tagged k M) r e z)

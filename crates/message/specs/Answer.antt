@@ -11,7 +11,8 @@ use Rattle.keys.specs.KeysIn.{keysIn}
 use Rattle.keys.specs.SetNumber.{setNumber}
 use Rattle.tag.specs.declared.TagAnswer.{TagAnswer}
 use Rattle.tag.specs.Answer.{makingAnswer, makingSlice, checkingAnswer}
-use Rattle.judge.specs.Fault.{sizeNumber, lengthNumber, emptyNumber}
+use Rattle.tag.specs.Fault.{sizeNumber}
+use Rattle.judge.specs.Fault.{lengthNumber, emptyNumber}
 
 -- the number of the first fault of a message of m bytes and a tag slice of n: 1, 2, 3, 5, 6. In PC-MAC-AES no message is empty
 unfoldable pub messageNumber : KeySet → ℕ → ℕ → ℕ

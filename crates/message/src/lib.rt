@@ -9,8 +9,8 @@ ghost use Rattle.tag.specs.Inner.{Sealed};
 ghost use Rattle.message.specs.Answer.{messageNumber, tagged};
 ghost use Rattle.message.specs.Promise.{TagPromise, VerifyPromise};
 use chain::Chain;
-use keys::DONE;
 use keys::KeySet;
+use numbers::DONE;
 pub use tag::TagAnswer;
 
 // The first fault of a message of m bytes and a tag slice of n. A message of PC-MAC-AES may not be
@@ -19,7 +19,7 @@ fn fault(keys: KeySet, m: usize, n: usize) -> u8
     ensures { λ r. ⌜ r ≡ messageNumber keys m n ⌝ }
 {
     let set = keys::set_fault(keys);
-    let size = judge::size_fault(keys.bits, n);
+    let size = tag::size_fault(keys.bits, n);
     let long = judge::length_fault(0, m);
     let empty = judge::empty_fault(false, m);
     judge::first(set, judge::first(size, judge::first(long, empty)))
@@ -65,5 +65,5 @@ pub fn verify<'a>(keys: KeySet, message: &'a [u8], received: &'a [u8]) -> TagAns
     if number != DONE {
         return tag::refused(number);
     }
-    tag::compare(sealed(keys, message), keys.bits, block::read(received, 0))
+    tag::compare(sealed(keys, message), keys.bits, received)
 }

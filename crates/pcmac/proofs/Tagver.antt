@@ -8,7 +8,7 @@ use native.Mathlib.Omega.{arith}
 use lib.ListN.{take}
 use lib.Dec.{T, eqb, eqb→eq}
 use borrow.Author.Tests.{eq-eqb}
-use Rattle.laws.proofs.Agree.{both-left, both-right}
+use Rattle.laws.proofs.Both.{both-left, both-right}
 use Rattle.laws.specs.Pick.{pick}
 use Rattle.block.specs.Block.{Block}
 use Rattle.pcmac.specs.Taggen.{TAGGEN}

@@ -86,6 +86,14 @@ fn open_or_keep<'a>(asked: &'a [u8], frame: &'a [u8], table: &'a [u8], out: &'a 
     show::part(out, part)
 }
 
+fn encode<'a>(q: Question, bytes: &'a [u8], out: &'a mut [u8]) -> usize {
+    let mut space = [q.fill; 1024];
+    let n = at_most(q.size, 1024);
+    let a = hex::encode(bytes, &mut space[..n]);
+    let at = show::line_answer(out, a);
+    show::space(out, at, space, n)
+}
+
 // Makes the call of a question, with the bytes of its fields. A line that is no question has no answer.
 pub(crate) fn made<'a>(
     asked: &'a [u8],
@@ -109,6 +117,7 @@ pub(crate) fn made<'a>(
         question::OPEN => open(asked, first, out),
         question::OPEN_OR => open_or(asked, first, second, out),
         question::OPEN_OR_KEEP => open_or_keep(asked, first, second, out),
+        question::ENCODE => encode(q, first, out),
         _ => 0,
     }
 }

@@ -29,6 +29,8 @@ pub(crate) const OPEN_OR: u8 = 12;
 
 pub(crate) const OPEN_OR_KEEP: u8 = 13;
 
+pub(crate) const ENCODE: u8 = 14;
+
 // A line that is no question.
 pub(crate) const NO_CALL: u8 = 0;
 
@@ -56,7 +58,7 @@ fn fixed(call: u8) -> usize {
 // Whether a call has a bytes field.
 fn has_first(call: u8) -> bool {
     match call {
-        KEY_CALL | READ | ADD | CHECK | TAG | VERIFY | DECODE => true,
+        KEY_CALL | READ | ADD | CHECK | TAG | VERIFY | DECODE | ENCODE => true,
         JUDGE | OPEN | OPEN_OR | OPEN_OR_KEEP => true,
         _ => false,
     }
@@ -73,7 +75,7 @@ fn has_second(call: u8) -> bool {
 // Whether a space is lent to it.
 fn is_lent(call: u8) -> bool {
     match call {
-        CLOSE | TAG | DECODE => true,
+        CLOSE | TAG | DECODE | ENCODE => true,
         _ => false,
     }
 }

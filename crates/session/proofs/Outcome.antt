@@ -15,7 +15,7 @@ use Rattle.lines.specs.Reader.{reads, said, takes}
 use Rattle.lines.proofs.Reader.{takes-most, takes-some, takes-all, said-room}
 use Rattle.answer.specs.Text.{textLength, textOf}
 use Rattle.answer.specs.Line.{lineAnswer}
-use Rattle.answer.proofs.Digits.{text-length}
+use Rattle.answer.proofs.Spelt.{text-length}
 use Rattle.frame.specs.Frame.{refusedFrame}
 use Rattle.session.specs.declared.State.{State}
 use Rattle.session.specs.declared.Stepped.{Stepped}

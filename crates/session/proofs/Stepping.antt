@@ -11,7 +11,8 @@ use lib.ListN.{length, take, drop, length-append, length-drop, drop-of-length-le
 use lib.Seq.{take-add, take-at, drop-append-add, drop-drop}
 use borrow.Author.Tests.{ltb-true, leb-true, leb-false, lt-ltb}
 use Rattle.laws.specs.Agree.{both}
-use Rattle.laws.proofs.Cases.{below-or-not, both-holds}
+use Rattle.laws.proofs.Both.{both-holds}
+use Rattle.laws.proofs.Cases.{below-or-not}
 use Rattle.lines.specs.Reader.{keptChars, Reader, reads, said, takes}
 use Rattle.lines.proofs.Reader.{reads-append, said-append, reads-kept, takes-none}
 use Rattle.answer.specs.Text.{textLength}

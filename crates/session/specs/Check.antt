@@ -6,7 +6,7 @@ use lib.Dec.{eqb}
 use Rattle.laws.specs.Pick.{pick}
 use Rattle.keys.specs.declared.KeySet.{KeySet}
 use Rattle.keys.specs.declared.KeyAnswer.{KeyAnswer}
-use Rattle.keys.specs.Numbers.{done}
+use Rattle.numbers.specs.Numbers.{done}
 use Rattle.keyline.specs.KeyLine.{keyLineAnswer}
 use Rattle.frame.specs.Frame.{refusedFrame}
 use Rattle.lines.specs.Lines.{lines}

@@ -9,7 +9,7 @@ use lib.ListN.{length, take}
 use Rattle.laws.specs.Pick.{pick}
 use Rattle.keys.specs.declared.KeySet.{KeySet}
 use Rattle.keys.specs.declared.KeyAnswer.{KeyAnswer}
-use Rattle.keys.specs.Numbers.{done}
+use Rattle.numbers.specs.Numbers.{done}
 use Rattle.keys.specs.Answer.{noSet}
 use Rattle.keyline.specs.KeyLine.{keyLineAnswer}
 use Rattle.frame.specs.Frame.{refusedFrame}

@@ -17,11 +17,11 @@ ghost use Rattle.session.specs.Session.{keyTurn, keyTell, turnOf, tellOf
 ghost use Rattle.session.specs.Inner.{Tells, Ready, Turned};
 ghost use Rattle.session.specs.Promise.{BeginPromise, IsOverPromise, StepPromise, FinishPromise};
 use answer::ANSWER;
-use keys::DONE;
 use keys::KeyAnswer;
 use keys::KeySet;
 use lines::KEPT;
 use lines::LINE_FEED;
+use numbers::DONE;
 
 // The key line is awaited; frames are; or the key line was refused, and nothing more is answered.
 const AWAITS_KEYS: u8 = 0;

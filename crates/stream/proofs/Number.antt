@@ -18,12 +18,14 @@ use Rattle.keys.specs.SetNumber.{setNumber}
 use Rattle.keys.proofs.SetNumber.{Taken, set-taken, taken-set}
 use Rattle.engine.specs.Engine.{chainStep}
 use Rattle.engine.proofs.Together.{engine-step}
+use Rattle.tag.specs.Fault.{sizeNumber}
 use Rattle.tag.specs.Tag.{tagBytes}
+use Rattle.tag.proofs.Number.{size-fits, other-size}
 use Rattle.judge.specs.declared.Stream.{Stream}
 use Rattle.judge.specs.Stream.{formed}
-use Rattle.judge.specs.Fault.{sizeNumber, streamNumber, lengthNumber, emptyNumber}
+use Rattle.judge.specs.Fault.{streamNumber, lengthNumber, emptyNumber}
 use Rattle.judge.proofs.Formed.{Formed}
-use Rattle.judge.proofs.Faultless.{size-fits, other-size, stream-formed, formed-stream, length-fits, fits-length, empty-some}
+use Rattle.judge.proofs.Faultless.{stream-formed, formed-stream, length-fits, fits-length, empty-some}
 use Rattle.stream.specs.declared.Added.{Added}
 use Rattle.stream.specs.Promise.{AddPromise}
 use Rattle.stream.specs.Answer.{addNumber, addedTo, addAnswer, closeNumber}

@@ -5,8 +5,9 @@ use mathlib.Core.Bool.{false}
 use mathlib.Core.List.{List, _∷_, _++_}
 use Prim.Native.Nat.{ℕ, _+_, _-_, _*_, _≤_, _<_}
 use native.Mathlib.Omega.{arith}
-use lib.ListN.{length, getD, drop, length-drop, getD-replicate}
+use lib.ListN.{length, getD, take, drop, length-drop, getD-replicate}
 use lib.Seq.{getD-at, getD-drop}
+use Rattle.block.specs.Bits.{bits}
 use Rattle.block.specs.Block.{sixteen}
 use Rattle.block.proofs.Sixteen.{sixteen-at}
 use Rattle.chain.specs.Walk.{Step}
@@ -18,7 +19,7 @@ use Rattle.keys.specs.SetNumber.{setNumber}
 use Rattle.tag.specs.declared.TagAnswer.{TagAnswer}
 use Rattle.tag.specs.Tag.{tagBytes}
 use Rattle.tag.proofs.Answered.{making-number}
-use Rattle.tag.proofs.Told.{making-leaves, checked-fault}
+use Rattle.tag.proofs.Told.{making-leaves, checked-fault, checked-bits}
 use Rattle.judge.specs.declared.Stream.{Stream}
 use Rattle.judge.specs.Stream.{formed, heldOf, viewOf, streamOf}
 use Rattle.judge.proofs.Held.{Fine, held-count}
@@ -139,3 +140,8 @@ pub other-size-checked : (k : KeySet) (s : Stream) (received : List ℕ) (r : Ta
     → CheckPromise k s received r → r .number ≡ 0 → ⊥
 other-size-checked k s received r h e z =
     h (closes k s (length received) (checked-fault _ (k .bits) received (closed k s) r e z) .size)
+
+-- a check that accepts other bits than the tag's: fewer of them compared, as many as the order is, or from the second byte on
+pub other-tag-checked : (k : KeySet) (s : Stream) (received : List ℕ) (r : TagAnswer)
+    → (take (k .bits) (bits received) ≡ closed k s .tag → ⊥) → CheckPromise k s received r → r .number ≡ 0 → ⊥
+other-tag-checked k s received r h e z = h (checked-bits _ (k .bits) received (closed k s) r e z)

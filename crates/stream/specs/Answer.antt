@@ -13,13 +13,14 @@ use Rattle.chain.specs.Stream.{add}
 use Rattle.pcmac.specs.Taggen.{Tagged, stepOf, sealed}
 use Rattle.keys.specs.declared.KeySet.{KeySet}
 use Rattle.keys.specs.KeysIn.{keysIn}
-use Rattle.keys.specs.Numbers.{done}
+use Rattle.numbers.specs.Numbers.{done}
 use Rattle.keys.specs.SetNumber.{setNumber}
 use Rattle.tag.specs.declared.TagAnswer.{TagAnswer}
 use Rattle.tag.specs.Answer.{makingAnswer, makingSlice, checkingAnswer}
+use Rattle.tag.specs.Fault.{sizeNumber}
 use Rattle.judge.specs.declared.Stream.{Stream}
 use Rattle.judge.specs.Stream.{chainOf, heldOf, viewOf, streamOf}
-use Rattle.judge.specs.Fault.{sizeNumber, streamNumber, lengthNumber, emptyNumber}
+use Rattle.judge.specs.Fault.{streamNumber, lengthNumber, emptyNumber}
 use Rattle.stream.specs.declared.Added.{Added}
 
 -- the number of the first fault where a part of n bytes is added: 1, 2, 4, 5

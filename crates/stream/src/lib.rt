@@ -16,8 +16,8 @@ ghost use Rattle.stream.specs.Inner.{Extends, Past, takenBoth, Closable}
 ghost use Rattle.stream.specs.Promise.{StartPromise, AddPromise, ClosePromise, CheckPromise};
 use chain::Chain;
 pub use judge::Stream;
-use keys::DONE;
 use keys::KeySet;
+use numbers::DONE;
 pub use tag::TagAnswer;
 
 // What adding answers: its number, and the stream.
@@ -168,7 +168,7 @@ fn close_fault(keys: KeySet, s: Stream, n: usize) -> u8
     ensures { λ r. ⌜ r ≡ closeNumber keys s n ⌝ }
 {
     let set = keys::set_fault(keys);
-    let size = judge::size_fault(keys.bits, n);
+    let size = tag::size_fault(keys.bits, n);
     let form = judge::stream_fault(keys.order, s);
     let empty = judge::empty_fault(false, s.total);
     judge::first(set, judge::first(size, judge::first(form, empty)))
@@ -205,5 +205,5 @@ pub fn check(keys: KeySet, s: Stream, received: &[u8]) -> TagAnswer
     if number != DONE {
         return tag::refused(number);
     }
-    tag::compare(sealed(keys, s), keys.bits, block::read(received, 0))
+    tag::compare(sealed(keys, s), keys.bits, received)
 }

@@ -9,9 +9,10 @@ use lib.Dec.{eqb}
 use lib.ListN.{length}
 use borrow.Author.Tests.{eq-eqb, ne-eqb, eqb-true}
 use Rattle.laws.specs.Pick.{pick}
+use Rattle.laws.proofs.UpTo.{Within}
 use Rattle.aes.proofs.Length.{cipher-length}
 use Rattle.block.specs.Bits.{bytes}
-use Rattle.block.specs.Block.{Block, zeros, cut, sixteen}
+use Rattle.block.specs.Block.{zeros, cut, sixteen}
 use Rattle.chain.specs.declared.Chain.{Chain}
 use Rattle.pcmac.specs.Taggen.{Tagged, sealed}
 use Rattle.keys.specs.declared.KeySet.{KeySet}
@@ -19,13 +20,14 @@ use Rattle.keys.specs.KeysIn.{keysIn}
 use Rattle.engine.specs.Engine.{closing, sealing, sealedBy}
 use Rattle.engine.proofs.Room.{Room, room-roomy, sealed-room}
 use Rattle.engine.proofs.Together.{engine-sealed}
+use Rattle.tag.specs.Fault.{tagNumber}
 use Rattle.tag.specs.Tag.{tagBytes}
 use Rattle.tag.specs.Answer.{taggedBy, refusedTag, madeTag, checkedTag, makingAnswer, makingSlice, checkingAnswer}
 use Rattle.tag.specs.declared.TagAnswer.{TagAnswer}
 use Rattle.tag.specs.Inner.{Sealed}
 use Rattle.tag.specs.Promise.{WritePromise, ComparePromise}
-use Rattle.tag.proofs.Laid.{laid-all}
-use Rattle.tag.proofs.Tagged.{tag-length, received-checked}
+use Rattle.tag.proofs.Number.{suits, suited}
+use Rattle.tag.proofs.Tagged.{received-checked}
 
 module _ (n : ℕ) (t : Tagged) where
   -- refused: the answer, and the slice as it is
@@ -53,23 +55,6 @@ module _ (n : ℕ) (t : Tagged) where
   pub checking-is : (p : ℕ) (l : List ℕ) → n ≡ 0 → checkingAnswer n p l t ≡ checkedTag p l t
   unfolding checkingAnswer
   checking-is p l e = rw (eq-eqb n 0 e)
-
-  -- made, from the chain after the closing step, into a slice that has just the bytes of the tag: the answer, and the slice
-  pub making-written : (p : ℕ) (c : Chain) (l : List ℕ) {r : TagAnswer} {after : List ℕ} → n ≡ 0 → p ≤ 128 → length l ≡ tagBytes p
-      → Sealed p t c → WritePromise c p l r after → (r ≡ makingAnswer n t) × (after ≡ makingSlice n t l)
-  unfolding taggedBy
-  making-written p c l e b h s w = (
-    w .0 ∙ ap madeTag (s .tag) ∙ sym (making-is e),
-    w .1 ∙ laid-all (bytes (cut p (c .value))) l (tag-length p (c .value) b (s .size) ∙ sym h)
-        ∙ ap (λ (u : Tagged). bytes (u .tag)) (s .tag) ∙ sym (slice-is l e),
-  )
-
-  -- checked, from the received bytes as a block
-  pub checking-checked : (p : ℕ) (l : List ℕ) {x : Block} {c : Chain} {r : TagAnswer} → n ≡ 0 → p ≤ 128 → length l ≡ tagBytes p
-      → x ≡ sixteen l → Sealed p t c → ComparePromise c p x r → r ≡ checkingAnswer n p l t
-  checking-checked p l {x} {c} e b h f s w =
-      w ∙ ap (λ (y : Block). checkedTag p y (taggedBy p c)) f ∙ received-checked p l (taggedBy p c) b h
-      ∙ ap (checkedTag p l) (s .tag) ∙ sym (checking-is p l e)
 
 -- the number of a call that makes a tag is that of its first fault
 pub making-number : (n : ℕ) (t : Tagged) → makingAnswer n t .number ≡ n
@@ -104,6 +89,37 @@ module _ {n n′ : ℕ} {t t′ : Tagged} (e : n ≡ n′) (q : n ≡ 0 → t �
   unfolding checkingAnswer
   checking-same p l =
       rw (← e) (pick-same n (checkedTag p l t) (checkedTag p l t′) (refusedTag n) (λ z. ap (checkedTag p l) (q z)))
+
+-- the tag of a chain after the closing step, of p bits, in a slice l
+module _ (p : ℕ) (c : Chain) (l : List ℕ) where
+  -- made
+  pub slice-made : {s : List ℕ} → tagNumber p (length l) ≡ 0 → s ≡ bytes (cut p (c .value))
+      → WritePromise c p l (record { number = 0; whole = c .whole; four = c .four }) s
+  unfolding madeTag taggedBy
+  slice-made z e =
+      let n = tagNumber p (length l) in
+      (sym (making-is n (taggedBy p c) z), e ∙ sym (slice-is n (taggedBy p c) l z))
+
+  -- checked, the received bytes being read as a block
+  pub slice-checked : {x : List ℕ} {r : TagAnswer} → tagNumber p (length l) ≡ 0 → x ≡ sixteen l → r ≡ checkedTag p x (taggedBy p c)
+      → ComparePromise c p l r
+  slice-checked z q e =
+      let n = tagNumber p (length l) in
+      let s = suits p (length l) z in
+      e ∙ ap (λ (y : List ℕ). checkedTag p y (taggedBy p c)) q ∙ received-checked p l (taggedBy p c) (s .bits .high) (s .size)
+      ∙ sym (checking-is n (taggedBy p c) p l z)
+
+  -- under a call without a fault of its own, for a tag length and a slice that it has judged
+  module _ (n : ℕ) (t : Tagged) (e : n ≡ 0) (w : Within 128 p) (h : length l ≡ tagBytes p) (s : Sealed p t c) where
+    same : tagNumber p (length l) ≡ n
+    same = suited p (length l) w h ∙ sym e
+
+    pub making-written : {r : TagAnswer} {after : List ℕ} → WritePromise c p l r after
+        → (r ≡ makingAnswer n t) × (after ≡ makingSlice n t l)
+    making-written q = (q .0 ∙ making-same same (λ z. s .tag), q .1 ∙ slice-same same (λ z. s .tag) l)
+
+    pub checking-checked : {r : TagAnswer} → ComparePromise c p l r → r ≡ checkingAnswer n p l t
+    checking-checked q = q ∙ checking-same same (λ z. s .tag) p l
 
 module _ (set : KeySet) (c : Chain) (last : List ℕ) (room : Room c) where
   sealed-is : sealedBy (set .round) (set .full) (set .short) c last ≡ sealing (set .round) (set .full) (set .short) c last

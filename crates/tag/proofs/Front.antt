@@ -13,7 +13,7 @@ use lib.Pow.{pow-pos}
 use lib.Seq.{ext-getD, take-append-le, take-append-add}
 use Rattle.laws.specs.Agree.{agree, table}
 use Rattle.laws.specs.Pick.{pick}
-use Rattle.laws.proofs.Agree.{agreed, table-at}
+use Rattle.laws.proofs.Agree.{agreed, table-length, table-at}
 use Rattle.laws.proofs.Bytes.{Bytes}
 use Rattle.laws.proofs.Cases.{below-or-not}
 use Rattle.block.specs.Bits.{binary, bits, value, bytes}
@@ -180,6 +180,14 @@ cut-table p x n h =
     let f : ℕ → ℕ = λ j. front (p - 8 * j) (getD x j 0) in
     ext-getD 0 (table f 16) (sixteen (bytes (cut p x))) (sym (sixteen-length (bytes (cut p x))))
     (λ j l. table-at f 16 j l ∙ sym (fronts-at x p j (omega arith)) ∙ ap (λ (z : List ℕ). getD z j 0) (sym (cut-fronts p x n h)))
+
+-- all of it
+pub cut-all : (p : ℕ) (x : List ℕ) → 128 ≤ p → length x ≡ 16 → Bytes x → x ≡ sixteen (bytes (cut p x))
+cut-all p x l n h =
+    let f : ℕ → ℕ = λ j. front (p - 8 * j) (getD x j 0) in
+    ext-getD 0 x (table f 16) (n ∙ sym (table-length f 16))
+    (λ j b. sym (front-whole (p - 8 * j) (getD x j 0) (omega arith)) ∙ sym (table-at f 16 j (omega arith)))
+    ∙ cut-table p x n h
 
 -- the zeros change none of the first p bits
 pub fronts-bits : (m : List ℕ) (p : ℕ) → Bytes m → take p (bits (fronts p m)) ≡ take p (bits m)

@@ -1,7 +1,7 @@
 pub mod Answered
+pub mod Compared
 pub mod Front
-pub mod Laid
+pub mod Number
 pub mod Refuted
 pub mod Tagged
 pub mod Told
-pub mod Verdict

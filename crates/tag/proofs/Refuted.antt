@@ -2,21 +2,26 @@
 -- Assumes nothing.
 use mathlib.Core.Path.{_≡_, refl, ap, sym, _∙_}
 use mathlib.Core.Bool.{Bool, true, false}
-use mathlib.Core.List.{List, _++_}
+use mathlib.Core.Logic.{_⊎_, ⊎-elim}
+use mathlib.Core.List.{List}
 use Prim.Native.Nat.{ℕ, _+_, _/_, _%_, _≤_, _<_}
 use native.Mathlib.Omega.{arith}
-use lib.ListN.{length, getD, take, drop, List·getD-append}
-use lib.Seq.{take-all}
+use lib.ListN.{length, getD, take}
 use Rattle.laws.specs.Pick.{pick}
+use Rattle.laws.proofs.UpTo.{Within}
 use Rattle.block.specs.Bits.{bits, bytes}
-use Rattle.block.specs.Block.{Block, cut}
+use Rattle.block.specs.Block.{cut}
 use Rattle.chain.specs.declared.Chain.{Chain}
 use Rattle.pcmac.specs.Tagver.{accepted}
 use Rattle.pcmac.proofs.Tagver.{accepted-equal, equal-accepted}
 use Rattle.tag.specs.declared.TagAnswer.{TagAnswer}
 use Rattle.tag.specs.Answer.{taggedBy, refusedTag, checkedTag}
-use Rattle.tag.specs.Tag.{laidOver}
-use Rattle.tag.specs.Promise.{SizePromise, RefusedPromise, WritePromise, ComparePromise}
+use Rattle.tag.specs.Fault.{tagNumber}
+use Rattle.tag.specs.Tag.{tagBytes}
+use Rattle.tag.specs.Promise.{SizePromise, RefusedPromise, SizeFaultPromise, WritePromise, ComparePromise}
+use Rattle.tag.proofs.Answered.{making-number, slice-is, checking-is}
+use Rattle.tag.proofs.Number.{fits-size, other-size, suits, suited}
+use Rattle.tag.proofs.Told.{making-leaves, checked-fault}
 
 -- a size that is rounded down
 pub size-rounded-down : (p r : ℕ) → (p % 8 ≡ 0 → ⊥) → SizePromise p r → r ≡ p / 8 → ⊥
@@ -40,36 +45,77 @@ module _ (number : ℕ) (r : TagAnswer) (e : RefusedPromise number r) where
       let f = ap (λ (x : TagAnswer). x .four) e in
       omega arith
 
+-- a slice of another size, a longer one as any, that is taken or given another number
+pub size-not-three : (p n r : ℕ) → (n ≡ tagBytes p → ⊥) → SizeFaultPromise p n r → (r ≡ 3 → ⊥) → ⊥
+size-not-three p n r h e w = w (e ∙ sym (other-size p n h))
+
+-- a slice of the right size that is refused
+pub size-refused : (p n r : ℕ) → n ≡ tagBytes p → SizeFaultPromise p n r → (r ≡ 0 → ⊥) → ⊥
+size-refused p n r h e w = w (e ∙ sym (fits-size p n h))
+
+-- number 0 where there is no tag of p bits: none, or more than 128
+no-such-tag : (p n : ℕ) → (p ≡ 0) ⊎ (128 < p) → tagNumber p n ≡ 0 → ⊥
+no-such-tag p n h z =
+    let s = suits p n z in
+    ⊎-elim (λ e. omega (arith, s .bits .low)) (λ l. omega (arith, s .bits .high)) h
+
 -- writing
 module _ (c : Chain) (p : ℕ) (slice : List ℕ) (r : TagAnswer) (after : List ℕ) (e : WritePromise c p slice r after) where
   abbrev tag-bytes : List ℕ
   tag-bytes = bytes (cut p (c .value))
 
+  number : r .number ≡ tagNumber p (length slice)
+  number = ap (λ (x : TagAnswer). x .number) (e .0) ∙ making-number (tagNumber p (length slice)) (taggedBy p c)
+
+  -- 0 for a tag length that does not exist
+  pub no-tag-written : (p ≡ 0) ⊎ (128 < p) → r .number ≡ 0 → ⊥
+  no-tag-written h z = no-such-tag p (length slice) h (sym number ∙ z)
+
+  -- 0 for a slice that is not of the tag's size
+  pub other-size-written : (length slice ≡ tagBytes p → ⊥) → r .number ≡ 0 → ⊥
+  other-size-written h z = h (suits p (length slice) (sym number ∙ z) .size)
+
+  -- a refusal that writes
+  pub refused-writing-writes : (r .number ≡ 0 → ⊥) → (after ≡ slice → ⊥) → ⊥
+  refused-writing-writes h w = w (making-leaves (tagNumber p (length slice)) (taggedBy p c) slice after r (e .0) (e .1) h .0)
+
   -- a byte of the tag that is lost, or another in its place: the last as any
-  pub tag-byte-lost : (i : ℕ) → i < length tag-bytes → length tag-bytes ≤ length slice → (getD after i 0 ≡ getD tag-bytes i 0 → ⊥) → ⊥
-  unfolding laidOver
-  tag-byte-lost i h room w =
-      let all : take (length slice) tag-bytes ≡ tag-bytes = take-all (length slice) tag-bytes room in
-      let is : after ≡ tag-bytes ++ drop (length tag-bytes) slice =
-      e .1 ∙ ap (λ (x : List ℕ). x ++ drop (length tag-bytes) slice) all in
-      w (ap (λ (x : List ℕ). getD x i 0) is ∙ List·getD-append tag-bytes (drop (length tag-bytes) slice) 0 i h)
+  pub tag-byte-lost : r .number ≡ 0 → (i : ℕ) → (getD after i 0 ≡ getD tag-bytes i 0 → ⊥) → ⊥
+  unfolding taggedBy
+  tag-byte-lost z i w =
+      let n = tagNumber p (length slice) in
+      w (ap (λ (x : List ℕ). getD x i 0) (e .1 ∙ slice-is n (taggedBy p c) slice (sym number ∙ z)))
 
 -- comparing
-module _ (c : Chain) (p : ℕ) (received : Block) (r : TagAnswer) (e : ComparePromise c p received r) where
-  number-by : (t : Bool) → accepted p (bits received) (cut p (c .value)) ≡ t → r .number ≡ pick t 0 7
-  unfolding checkedTag taggedBy
-  number-by t a = ap (λ (x : TagAnswer). x .number) e ∙ ap (λ (b : Bool). pick {A = ℕ} b 0 7) a
+module _ (c : Chain) (p : ℕ) (received : List ℕ) (r : TagAnswer) (e : ComparePromise c p received r) where
+  -- 0 for a tag length that does not exist, as where no bits are compared
+  pub no-tag-accepted : (p ≡ 0) ⊎ (128 < p) → r .number ≡ 0 → ⊥
+  no-tag-accepted h z =
+      no-such-tag p (length received) h (checked-fault (tagNumber p (length received)) p received (taggedBy p c) r e z)
 
-  -- a tag that is refused although its bits are those of the value, as where every tag is
-  pub same-bits-refused : take p (bits received) ≡ cut p (c .value) → r .number ≡ 7 → ⊥
-  same-bits-refused q z =
-      let n = number-by true (equal-accepted p (bits received) (cut p (c .value)) q) in
-      omega arith
+  -- 0 for a slice that is not of the tag's size
+  pub other-size-accepted : (length received ≡ tagBytes p → ⊥) → r .number ≡ 0 → ⊥
+  other-size-accepted h z =
+      h (suits p (length received) (checked-fault (tagNumber p (length received)) p received (taggedBy p c) r e z) .size)
 
-  -- a tag that is accepted although its bits are not: compared with itself, or by its first byte alone
-  pub other-bits-accepted : (take p (bits received) ≡ cut p (c .value) → ⊥) → r .number ≡ 0 → ⊥
-  other-bits-accepted h z = by (accepted p (bits received) (cut p (c .value))) refl
-    where
-      by : (t : Bool) → accepted p (bits received) (cut p (c .value)) ≡ t → ⊥
-      by true a = h (accepted-equal p (bits received) (cut p (c .value)) a)
-      by false a = let n = number-by false a in omega arith
+  module _ (w : Within 128 p) (size : length received ≡ tagBytes p) where
+    number-by : (t : Bool) → accepted p (bits received) (cut p (c .value)) ≡ t → r .number ≡ pick t 0 7
+    unfolding checkedTag taggedBy
+    number-by t a =
+        ap (λ (x : TagAnswer). x .number)
+        (e ∙ checking-is (tagNumber p (length received)) (taggedBy p c) p received (suited p (length received) w size))
+        ∙ ap (λ (b : Bool). pick {A = ℕ} b 0 7) a
+
+    -- a tag that is refused although its bits are those of the value, as where every tag is
+    pub same-bits-refused : take p (bits received) ≡ cut p (c .value) → r .number ≡ 7 → ⊥
+    same-bits-refused q z =
+        let n = number-by true (equal-accepted p (bits received) (cut p (c .value)) q) in
+        omega arith
+
+    -- a tag that is accepted although its bits are not: compared with itself, or by its first byte alone
+    pub other-bits-accepted : (take p (bits received) ≡ cut p (c .value) → ⊥) → r .number ≡ 0 → ⊥
+    other-bits-accepted h z = by (accepted p (bits received) (cut p (c .value))) refl
+      where
+        by : (t : Bool) → accepted p (bits received) (cut p (c .value)) ≡ t → ⊥
+        by true a = h (accepted-equal p (bits received) (cut p (c .value)) a)
+        by false a = let n = number-by false a in omega arith

@@ -9,7 +9,7 @@ use Rattle.block.specs.Block.{cut}
 use Rattle.chain.specs.declared.Chain.{Chain}
 use Rattle.pcmac.specs.Taggen.{Tagged}
 use Rattle.pcmac.specs.Tagver.{accepted}
-use Rattle.keys.specs.Numbers.{done, tagDiffers}
+use Rattle.numbers.specs.Numbers.{done, tagDiffers}
 use Rattle.tag.specs.declared.TagAnswer.{TagAnswer}
 
 -- the tag's bits and the counts, out of the chain after the closing step: its value is E(h), of which the tag is the first p bits

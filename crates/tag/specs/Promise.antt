@@ -3,13 +3,13 @@
 use mathlib.Core.Path.{_≡_}
 use mathlib.Core.List.{List}
 use Prim.Native.Nat.{ℕ}
+use lib.ListN.{length}
 use Rattle.laws.proofs.Once.{once}
-use Rattle.block.specs.Bits.{bytes}
-use Rattle.block.specs.Block.{Block, cut}
 use Rattle.chain.specs.declared.Chain.{Chain}
 use Rattle.tag.specs.declared.TagAnswer.{TagAnswer}
-use Rattle.tag.specs.Tag.{tagBytes, laidOver}
-use Rattle.tag.specs.Answer.{taggedBy, refusedTag, madeTag, checkedTag}
+use Rattle.tag.specs.Fault.{sizeNumber, tagNumber}
+use Rattle.tag.specs.Tag.{tagBytes}
+use Rattle.tag.specs.Answer.{taggedBy, refusedTag, makingAnswer, makingSlice, checkingAnswer}
 
 -- size hands back how many bytes a tag of so many bits occupies
 abbrev pub SizePromise : ℕ → ℕ → Type 0
@@ -27,21 +27,31 @@ RefusedPromise number r = r ≡ refusedTag number
 pub refused-once : (number : ℕ) (r r′ : TagAnswer) → RefusedPromise number r → RefusedPromise number r′ → r ≡ r′
 refused-once number r r′ a b = once a b
 
--- write hands back 0 and the counts of the chain after the closing step, and lays the bytes of the first p bits of its value over
--- the front of the slice
+-- size_fault hands back 3 where a slice is not of just the bytes of a tag, otherwise 0
+abbrev pub SizeFaultPromise : ℕ → ℕ → ℕ → Type 0
+SizeFaultPromise p n r = r ≡ sizeNumber p n
+
+-- any two answers that size_fault may give are equal
+pub size-fault-once : (p n r r′ : ℕ) → SizeFaultPromise p n r → SizeFaultPromise p n r′ → r ≡ r′
+size-fault-once p n r r′ a b = once a b
+
+-- write hands back 0 and the counts of the chain after the closing step, and the slice then holds the bytes of the first p bits of its
+-- value; or 2, there is no tag of p bits, or 3, the slice is not of its size, no counts, and the slice holds what it held
 abbrev pub WritePromise : Chain → ℕ → List ℕ → TagAnswer → List ℕ → Type 0
-WritePromise c p slice r after = (r ≡ madeTag (taggedBy p c)) × (after ≡ laidOver (bytes (cut p (c .value))) slice)
+WritePromise c p slice r after =
+    (r ≡ makingAnswer (tagNumber p (length slice)) (taggedBy p c)) × (after ≡ makingSlice (tagNumber p (length slice)) (taggedBy p c) slice)
 
 -- any two outcomes that write may have are equal, the answer and the slice
 pub write-once : (c : Chain) (p : ℕ) (slice : List ℕ) (r r′ : TagAnswer) (after after′ : List ℕ) → WritePromise c p slice r after
     → WritePromise c p slice r′ after′ → (r ≡ r′) × (after ≡ after′)
 write-once c p slice r r′ after after′ a b = (once (a .0) (b .0), once (a .1) (b .1))
 
--- compare hands back 0 where the first p bits of the received block are those of the chain's value, otherwise 7, and the counts
-abbrev pub ComparePromise : Chain → ℕ → Block → TagAnswer → Type 0
-ComparePromise c p received r = r ≡ checkedTag p received (taggedBy p c)
+-- compare hands back 0 where the first p bits that were received are those of the chain's value, otherwise 7, and the counts; or 2 or 3,
+-- as write does, and no counts
+abbrev pub ComparePromise : Chain → ℕ → List ℕ → TagAnswer → Type 0
+ComparePromise c p received r = r ≡ checkingAnswer (tagNumber p (length received)) p received (taggedBy p c)
 
 -- any two answers that compare may give are equal
-pub compare-once : (c : Chain) (p : ℕ) (received : Block) (r r′ : TagAnswer) → ComparePromise c p received r
+pub compare-once : (c : Chain) (p : ℕ) (received : List ℕ) (r r′ : TagAnswer) → ComparePromise c p received r
     → ComparePromise c p received r′ → r ≡ r′
 compare-once c p received r r′ a b = once a b

@@ -4,18 +4,22 @@
 //
 //     let n = tag::size(60);                            // 8 bytes
 //     let answer = tag::write(made, 60, &mut space);    // number 0, and the counts
-//     let verdict = tag::compare(made, 60, received);   // number 0, or 7 where the tag differs
+//     let verdict = tag::compare(made, 60, &received);  // number 0, or 7 where the tag differs
+//     let none = tag::compare(made, 0, &received);      // number 2: there is no such tag
 ghost use mathlib.Core.Path.{_≡_};
-ghost use Prim.Native.Nat.{_-_, _*_, _%_, _^_, min};
-ghost use lib.ListN.{take};
+ghost use Prim.Native.Nat.{_-_, _*_, _%_, _^_, _≤_};
+ghost use lib.ListN.{length, take};
 ghost use Rattle.block.specs.Bits.{bytes};
 ghost use Rattle.block.specs.Block.{cut, sixteen};
 ghost use Rattle.pcmac.specs.Tagver.{same};
-ghost use Rattle.tag.specs.Tag.{laidOver};
-ghost use Rattle.tag.specs.Promise.{SizePromise, RefusedPromise, WritePromise, ComparePromise};
+ghost use Rattle.tag.specs.Answer.{taggedBy, checkedTag};
+ghost use Rattle.tag.specs.Fault.{tagNumber};
+ghost use Rattle.tag.specs.Promise.{SizePromise, RefusedPromise, SizeFaultPromise, WritePromise, ComparePromise};
 use chain::Chain;
-use keys::DONE;
-use keys::TAG_DIFFERS;
+use keys::LONGEST_TAG;
+use numbers::BAD_SIZE;
+use numbers::DONE;
+use numbers::TAG_DIFFERS;
 
 // What a call that makes or checks a tag answers: its number, and the steps of each kind.
 pub struct TagAnswer {
@@ -40,6 +44,24 @@ pub fn refused(number: u8) -> TagAnswer
         whole: 0,
         four: 0,
     }
+}
+
+// 3: a slice of n bytes is not of just the bytes of a tag of so many bits.
+pub fn size_fault(bits: u8, n: usize) -> u8
+    ensures { λ r. ⌜ SizeFaultPromise bits n r ⌝ }
+{
+    if n == size(bits) { DONE } else { BAD_SIZE }
+}
+
+// The first fault of a tag length and of a tag slice of n bytes.
+fn fault(bits: u8, n: usize) -> u8
+    ensures { λ r. ⌜ r ≡ tagNumber bits n ⌝ }
+{
+    let b = keys::bits_fault(bits);
+    if b != DONE {
+        return b;
+    }
+    size_fault(bits, n)
 }
 
 // How many of p bits stand in byte i of a block or after it.
@@ -68,10 +90,14 @@ fn kept_byte(byte: u8, k: usize) -> u8
     byte - byte % (1u8 << (8 - k))
 }
 
-// The first p bits of a block, and then zeros.
+// The first p bits of a block, and then zeros. Of 128 bits, the tag length where none is said, that is
+// the block as it is: going through it byte by byte would cost a tag 100 instructions for nothing.
 fn kept(x: [u8; 16], p: u8) -> [u8; 16]
     ensures { λ r. ⌜ r ≡ sixteen (bytes (cut p x)) ⌝ }
 {
+    if p as usize >= LONGEST_TAG {
+        return x;
+    }
     let mut r = [0u8; 16];
     let mut i: usize = 0;
     while i < 16 {
@@ -81,20 +107,13 @@ fn kept(x: [u8; 16], p: u8) -> [u8; 16]
     r
 }
 
-// The smaller of two numbers.
-fn smaller(a: usize, b: usize) -> usize
-    ensures { λ r. ⌜ r ≡ min a b ⌝ }
+// The first bytes of a block, as many as a slice has.
+fn put(x: [u8; 16], slice: &mut [u8])
+    requires { ⌜ length (now slice) ≤ 16 ⌝ }
+    ensures { λ _. ⌜ now (slice .exit) ≡ take (length (now (slice .entry))) x ⌝ }
 {
-    if a < b { a } else { b }
-}
-
-// The first n bytes of a block, laid over the front of a slice as far as it goes.
-fn put(x: [u8; 16], n: usize, slice: &mut [u8])
-    ensures { λ _. ⌜ now (slice .exit) ≡ laidOver (take n x) (now (slice .entry)) ⌝ }
-{
-    let end = smaller(smaller(n, 16), slice.len());
     let mut i: usize = 0;
-    while i < end {
+    while i < slice.len() {
         slice[i] = x[i];
         i += 1;
     }
@@ -118,8 +137,12 @@ fn equal(x: [u8; 16], y: [u8; 16]) -> bool
 pub fn write(made: Chain, bits: u8, slice: &mut [u8]) -> TagAnswer
     ensures { λ r. ⌜ WritePromise made bits (now (slice .entry)) r (now (slice .exit)) ⌝ }
 {
+    let number = fault(bits, slice.len());
+    if number != DONE {
+        return refused(number);
+    }
     let value = made.value;
-    put(kept(value, bits), size(bits), slice);
+    put(kept(value, bits), slice);
     TagAnswer {
         number: DONE,
         whole: made.whole,
@@ -129,8 +152,8 @@ pub fn write(made: Chain, bits: u8, slice: &mut [u8]) -> TagAnswer
 
 // The verdict on a received tag, whose bytes stand at the front of a block: its first p bits are
 // compared with those of the chain's value after the closing step, and no others.
-pub fn compare(made: Chain, bits: u8, received: [u8; 16]) -> TagAnswer
-    ensures { λ r. ⌜ ComparePromise made bits received r ⌝ }
+fn verdict(made: Chain, bits: u8, received: [u8; 16]) -> TagAnswer
+    ensures { λ r. ⌜ r ≡ checkedTag bits received (taggedBy bits made) ⌝ }
 {
     let value = made.value;
     let alike = equal(kept(received, bits), kept(value, bits));
@@ -139,4 +162,15 @@ pub fn compare(made: Chain, bits: u8, received: [u8; 16]) -> TagAnswer
         whole: made.whole,
         four: made.four,
     }
+}
+
+// The verdict on a received tag.
+pub fn compare(made: Chain, bits: u8, received: &[u8]) -> TagAnswer
+    ensures { λ r. ⌜ ComparePromise made bits (now (received .entry)) r ⌝ }
+{
+    let number = fault(bits, received.len());
+    if number != DONE {
+        return refused(number);
+    }
+    verdict(made, bits, block::read(received, 0))
 }

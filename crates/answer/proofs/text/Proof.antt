@@ -1,30 +1,29 @@
--- `answer::text` meets its contract. The four fields are laid one behind the other.
+-- `answer::text` meets its contract. The answer's bytes are encoded over line feeds.
 -- Assumes nothing.
-use Rattle.answer.proofs.Digits.{put-all}
+use Rattle.answer.proofs.Spelt.{text-encoded}
 use borrow.Author.Needs.{needs}
 use Rattle.answer.proofs.text.Statement.{statement}
 use Rattle.answer.proofs.text.Tie as tie
 
-cast-put : tie.Need-cast-put
-cast-put c = search needs
+bytes-of-requires : tie.Need-bytes-of-requires
+bytes-of-requires c κs = search needs
 
-put-requires : tie.Need-put-requires
-put-requires c κs = search needs
+slice-aggregate-encode : tie.Need-slice-aggregate-encode
+slice-aggregate-encode c = search needs
 
-put-requires-2 : tie.Need-put-requires-2
-put-requires-2 c κs = search needs
+slice-aggregate-encode-2 : tie.Need-slice-aggregate-encode-2
+slice-aggregate-encode-2 c = search needs
 
-put-requires-3 : tie.Need-put-requires-3
-put-requires-3 c κs = search needs
-
-put-requires-4 : tie.Need-put-requires-4
-put-requires-4 c κs = search needs
+encode-requires : tie.Need-encode-requires
+encode-requires c κs = search needs
 
 returns : tie.Need-returns
 returns c =
-    put-all _ _ _ _ (c .before .before .before .before .before .args .a) (c .before .before .before .put .ensures)
-    (c .before .before .put2 .ensures) (c .before .put3 .ensures) (c .put4 .ensures)
+    let at-encode = c .before in
+    let at-bytes = at-encode .before .before .before in
+    text-encoded _ _ (at-bytes .bytes-of .ensures) (at-encode .encode .ensures)
 
 pub text-spec : {M : Type 1} → statement M
 text-spec =
-    tie.close (tie.spec cast-put put-requires put-requires-2 put-requires-3 put-requires-4 returns)
+    tie.close
+    (tie.spec bytes-of-requires slice-aggregate-encode slice-aggregate-encode-2 encode-requires returns)

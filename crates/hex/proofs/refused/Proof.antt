@@ -1,7 +1,7 @@
 -- `hex::refused` meets its contract.
 -- Assumes nothing.
 use mathlib.Core.Path.{refl}
-use Rattle.hex.specs.Line.{refusedLine}
+use Rattle.hex.specs.Answer.{refusedLine}
 use Rattle.hex.proofs.refused.Statement.{statement}
 use Rattle.hex.proofs.refused.Tie as tie
 

@@ -33,7 +33,7 @@ returns-2 c =
     let sealed = c .before .before .before .before in
     let none = sym (sealed .before .before .fault .ensures) ∙ sealed .before .if1 .left in
     let t = tags _ _ _ none in
-    making-written _ _ _ _ _ none (t .set .tag .high) (t .size) (sealed .sealed .ensures) (c .before .before .write .ensures)
+    making-written _ _ _ _ _ none (t .set .tag) (t .size) (sealed .sealed .ensures) (c .before .before .write .ensures)
 
 pub tag-spec : {M : Type 1} → statement M
 tag-spec =

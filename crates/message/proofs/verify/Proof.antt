@@ -19,18 +19,15 @@ returns c = c .refused .ensures ∙ checking-refused _ _ _ _ (c .before .before 
 sealed-requires : tie.Need-sealed-requires
 sealed-requires c κs = let t = tags _ _ _ (sym (c .before .fault .ensures) ∙ c .if1 .left) in (t .some, t .fits)
 
-read-requires : tie.Need-read-requires
-read-requires c κs = search needs
-
 compare-requires : tie.Need-compare-requires
 compare-requires c κs = search needs
 
 returns-2 : tie.Need-returns-2
 returns-2 c =
-    let sealed = c .before .before in
+    let sealed = c .before in
     let none = sym (sealed .before .before .fault .ensures) ∙ sealed .before .if1 .left in
     let t = tags _ _ _ none in
-    checking-checked _ _ _ _ none (t .set .tag .high) (t .size) (c .before .read .ensures) (sealed .sealed .ensures) (c .compare .ensures)
+    checking-checked _ _ _ _ _ none (t .set .tag) (t .size) (sealed .sealed .ensures) (c .compare .ensures)
 
 pub verify-spec : {M : Type 1} → statement M
 verify-spec =
@@ -40,6 +37,5 @@ verify-spec =
     refused-requires
     returns
     sealed-requires
-    read-requires
     compare-requires
     returns-2)

@@ -21,18 +21,15 @@ sealed-requires c κs =
     let taken = closes _ _ _ (sym (c .before .close-fault .ensures) ∙ c .if1 .left) in
     record { form = taken .form; some = taken .some }
 
-read-requires : tie.Need-read-requires
-read-requires c κs = search needs
-
 compare-requires : tie.Need-compare-requires
 compare-requires c κs = search needs
 
 returns-2 : tie.Need-returns-2
 returns-2 c =
-    let sealed = c .before .before in
+    let sealed = c .before in
     let none = sym (sealed .before .before .close-fault .ensures) ∙ sealed .before .if1 .left in
     let t = closes _ _ _ none in
-    checking-checked _ _ _ _ none (t .set .tag .high) (t .size) (c .before .read .ensures) (sealed .sealed .ensures) (c .compare .ensures)
+    checking-checked _ _ _ _ _ none (t .set .tag) (t .size) (sealed .sealed .ensures) (c .compare .ensures)
 
 pub check-spec : {M : Type 1} → statement M
 check-spec =
@@ -42,6 +39,5 @@ check-spec =
     refused-requires
     returns
     sealed-requires
-    read-requires
     compare-requires
     returns-2)

@@ -1,7 +1,7 @@
 -- `tag::equal` meets its contract. After i turns the digits in which the first i bytes differ are gathered, and 16 - i turns are left.
 -- Assumes nothing.
 use Prim.Native.Nat.{_-_}
-use Rattle.tag.proofs.Verdict.{Gathered, gathered-none, gathered-more, gathered-all}
+use Rattle.tag.proofs.Compared.{Gathered, gathered-none, gathered-more, gathered-all}
 use borrow.Author.Needs.{needs}
 use Rattle.tag.proofs.equal.Statement.{statement}
 use Rattle.tag.proofs.equal.Tie as tie

@@ -1,10 +1,11 @@
--- `tag::kept` meets its contract. After i turns the first i bytes are entered, and 16 - i turns are left.
+-- `tag::kept` meets its contract. All of the block, where p is 128 or more; otherwise after i turns the first i bytes are entered, and
+-- 16 - i turns are left.
 -- Assumes nothing.
 use mathlib.Core.Path.{ap, _∙_}
 use Prim.Native.Nat.{ℕ, _-_, _*_}
 use lib.ListN.{getD}
 use Rattle.laws.proofs.Entered.{Entered, entered-none, entered-more, entered-all}
-use Rattle.tag.proofs.Front.{front, cut-table}
+use Rattle.tag.proofs.Front.{front, cut-table, cut-all}
 use borrow.Author.Needs.{needs}
 use Rattle.tag.proofs.kept.Statement.{statement}
 use Rattle.tag.proofs.kept.Tie as tie
@@ -14,6 +15,11 @@ Inv-loop p x r₀ i₀ r i = Entered (λ j. front (p - 8 * j) (getD x j 0)) 16 r
 
 abbrev μ-loop : tie.MeasureT-loop
 μ-loop p x r₀ i₀ r i = 16 - i
+
+returns : tie.Need-returns Inv-loop μ-loop
+returns c =
+    let a = c .before .args in
+    cut-all (a .p) (a .t1) (search needs) (search needs) (λ j. search needs)
 
 loop-holds : tie.Need-loop-holds Inv-loop μ-loop
 loop-holds c = entered-none _ _ _ (search needs)
@@ -40,11 +46,11 @@ loop-again : tie.Need-loop-again Inv-loop μ-loop
 loop-again c =
     let a = c .before .before .before in
     entered-more (a .loop .inv) _ (search needs)
-    (c .kept-byte .ensures ∙ ap (λ (k : ℕ). front k (getD (a .before .args .t1) (a .loop .i) 0)) (c .before .bits-from .ensures))
+    (c .kept-byte .ensures ∙ ap (λ (k : ℕ). front k (getD (a .before .before .args .t1) (a .loop .i) 0)) (c .before .bits-from .ensures))
 
-returns : tie.Need-returns Inv-loop μ-loop
-returns c =
-    let a = c .before .before .args in
+returns-2 : tie.Need-returns-2 Inv-loop μ-loop
+returns-2 c =
+    let a = c .before .before .before .args in
     entered-all (c .before .loop .inv) (search needs) ∙ cut-table (a .p) (a .t1) (search needs) (λ j. search needs)
 
 pub kept-spec : {M : Type 1} → statement M
@@ -53,6 +59,7 @@ kept-spec =
     (tie.spec
     Inv-loop
     μ-loop
+    returns
     loop-holds
     array-read-kept-byte
     bits-from-requires
@@ -61,4 +68,4 @@ kept-spec =
     add-i
     loop-less
     loop-again
-    returns)
+    returns-2)
