@@ -3,7 +3,7 @@
 use crate::book::{Book, Data};
 use crate::inputs::Pair;
 use crate::random::Random;
-use crate::{aes, inputs_fresh, inputs_stored, pcmac, week};
+use crate::{aes, inputs_fresh, inputs_run, inputs_stored, pcmac, week};
 use crate::{questions_encode, questions_frames, questions_keys, questions_lines};
 use crate::{questions_messages, questions_spoilt, questions_streams};
 use std::path::Path;
@@ -58,8 +58,8 @@ pub fn stored(folder: &Path) -> io::Result<()> {
     write(folder, "crates/probe/stdin", &book.questions)?;
     write(folder, "crates/probe/stdout", &book.answers)?;
     let mut random = Random(STORED);
-    let mixed = inputs_fresh::mixed(&mut random, 0);
-    write_pair(folder, "crates/checker/stdin", "crates/checker/stdout", &mixed)?;
+    let run = inputs_run::run(&mut random);
+    write_pair(folder, "crates/checker/stdin", "crates/checker/stdout", &run)?;
     for pair in inputs_stored::all(&mut random) {
         let name = format!("tests/check/{}", pair.name);
         write_pair(folder, &format!("{name}.in"), &format!("{name}.out"), &pair)?;

@@ -16,8 +16,19 @@ pub fn all(random: &mut Random) -> Vec<Pair> {
     pairs
 }
 
-/// A few hundred lines of every kind, every other time without the last line feed.
-pub fn mixed(random: &mut Random, round: usize) -> Pair {
+/// Every other time without the last line feed.
+fn mixed(random: &mut Random, round: usize) -> Pair {
+    let input = mixed_lines(random);
+    let input = if round % 2 == 1 {
+        input.without_last_line_feed()
+    } else {
+        input
+    };
+    input.named("mixed")
+}
+
+/// A few hundred lines of every kind.
+pub fn mixed_lines(random: &mut Random) -> Input {
     let (order, length) = (random.below(6) as u8, random.below(129) as u8);
     let mut input = Input::new(random, order, length);
     for _ in 0..200 + random.below(200) {
@@ -25,12 +36,7 @@ pub fn mixed(random: &mut Random, round: usize) -> Pair {
     }
     // The last is no empty line, since without its line feed that would be no line.
     input.line_of(random, 120);
-    let input = if round % 2 == 1 {
-        input.without_last_line_feed()
-    } else {
-        input
-    };
-    input.named("mixed")
+    input
 }
 
 /// Line feeds around multiples of what a program may read at once, up to two bytes on either side.

@@ -13,6 +13,7 @@ mod hex;
 mod inner;
 mod inputs;
 mod inputs_fresh;
+mod inputs_run;
 mod inputs_stored;
 mod library;
 mod pcmac;

@@ -3,10 +3,10 @@
 // hexadecimal, and a line feed.
 //
 //     let verdict = answer::of_line(keys, &line);
-//     let text = answer::text(verdict);
+//     let written = answer::tell(verdict, &mut space);    // the text is &space[..written]
 ghost use mathlib.Core.Path.{_≡_};
 ghost use Rattle.answer.specs.Text.{answerBytes};
-ghost use Rattle.answer.specs.Promise.{OfLinePromise, TextPromise};
+ghost use Rattle.answer.specs.Promise.{OfLinePromise, TellPromise};
 use frame::FrameAnswer;
 use keys::KeySet;
 use lines::LINE_FEED;
@@ -48,12 +48,16 @@ fn bytes_of(a: FrameAnswer) -> [u8; 10]
     ]
 }
 
-// The text of an answer: its bytes in hexadecimal, over line feeds, of which the last stays.
-pub fn text(a: FrameAnswer) -> [u8; ANSWER]
-    ensures { λ r. ⌜ TextPromise a r ⌝ }
+// Writes the text of an answer at the front of a lent space, its bytes in hexadecimal and a line feed,
+// and hands back how long it is; where the space has not room for it, nothing.
+pub fn tell(a: FrameAnswer, space: &mut [u8]) -> usize
+    ensures { λ r. ⌜ TellPromise a (now (space .entry)) r (now (space .exit)) ⌝ }
 {
+    if space.len() < ANSWER {
+        return 0;
+    }
     let bytes = bytes_of(a);
-    let mut text = [LINE_FEED; ANSWER];
-    hex::encode(&bytes, &mut text);
-    text
+    hex::encode(&bytes, space);
+    space[ANSWER - 1] = LINE_FEED;
+    ANSWER
 }

@@ -30,7 +30,7 @@ use Rattle.keyline.specs.KeyLine.{keyLineAnswer}
 use Rattle.frame.specs.Frame.{frameAnswer}
 use Rattle.lines.specs.Reader.{closing}
 use Rattle.answer.specs.Line.{lineAnswer}
-use Rattle.answer.specs.Text.{textOf}
+use Rattle.answer.specs.Text.{toldIn}
 use Rattle.session.specs.declared.State.{State}
 use Rattle.session.specs.declared.Stepped.{Stepped}
 use Rattle.session.specs.Session.{begun, readerOf, stateOf, over}
@@ -78,7 +78,10 @@ answers = record {
   opens-or = of-frames.opens-or;
   opens-or-keeps = of-frames.opens-or;
   judges-line = λ k line. (lineAnswer k line, refl);
-  texts = λ a. (textOf a, refl);
+  tells =
+      λ a space.
+      let text = toldIn (length space) a in
+      (length text, text ++ drop (length text) space, (refl, refl));
   begins = (stateOf (record { session = begun; line = [] }), refl);
   steps = λ s part space. stepped s part space;
   finishes = λ s space. stepped s (closing (readerOf s)) space;

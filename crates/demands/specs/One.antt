@@ -28,7 +28,7 @@ use Rattle.frame.specs.Promise.{JudgePromise, OpenPromise, OpenOrPromise}
 use Rattle.bridge.specs.Promise.{OpenOrKeepPromise}
 use Rattle.session.specs.declared.State.{State}
 use Rattle.session.specs.declared.Stepped.{Stepped}
-use Rattle.answer.specs.Promise.{OfLinePromise, TextPromise}
+use Rattle.answer.specs.Promise.{OfLinePromise, TellPromise}
 use Rattle.session.specs.Promise.{BeginPromise, IsOverPromise, StepPromise, FinishPromise}
 use Rattle.demands.specs.Numbers.{Numbers}
 use Rattle.demands.specs.Terms.{bodyEnd}
@@ -54,10 +54,10 @@ pub record Answers : Type 0 where
   pub opens : (keys : KeySet) (frame : RefT (List ℕ)) → (o : RefT (List ℕ)) × OpenPromise keys frame o
   pub opens-or : (keys : KeySet) (frame table : RefT (List ℕ)) → (o : RefT (List ℕ)) × OpenOrPromise keys frame table o
   pub opens-or-keeps : (keys : KeySet) (frame table : RefT (List ℕ)) → (o : RefT (List ℕ)) × OpenOrKeepPromise keys frame table o
-  -- the program check: a frame line and the text of its answer; its state at the start, a part of its input, the end of it, and
+  -- the program check: a frame line and the text of its answer in a space; its state at the start, a part of its input, the end of it, and
   -- whether it is over
   pub judges-line : (keys : KeySet) (line : List ℕ) → (r : FrameAnswer) × OfLinePromise keys line r
-  pub texts : (a : FrameAnswer) → (r : List ℕ) × TextPromise a r
+  pub tells : (a : FrameAnswer) (space : List ℕ) → (r : ℕ) × (after : List ℕ) × TellPromise a space r after
   pub begins : (s : State) × BeginPromise s
   pub steps : (s : State) (part space : List ℕ) → (r : Stepped) × (after : List ℕ) × StepPromise s part space r after
   pub finishes : (s : State) (space : List ℕ) → (r : Stepped) × (after : List ℕ) × FinishPromise s space r after

@@ -41,7 +41,7 @@ laid-length {x} {l} {s} {o} {m} {i} v =
     ap length (v .same) ∙ length-append (take o l ++ take i x) (drop (o + i) l) ∙ omega (arith, v .within, v .room)
 
 -- the next place is within it
-pub laid-within : {x l s : List ℕ} {o m i : ℕ} → Laid x l o m s i → i < m → o + i < length s
+laid-within : {x l s : List ℕ} {o m i : ℕ} → Laid x l o m s i → i < m → o + i < length s
 laid-within v h = omega (arith, laid-length v, v .room)
 
 pub laid-more : {x l s : List ℕ} {o m i : ℕ} → Laid x l o m s i → i < m → Laid x l o m (set s (o + i) (getD x i 0)) (i + 1)
@@ -61,12 +61,6 @@ laid-more {x} {l} {s} {o} {m} {i} v h = record {
       (ap₂ (λ (z : List ℕ) (j : ℕ). z ++ drop j l)
       (append-assoc (take o l) (take i x) (getD x i 0 ∷ []) ∙ ap (λ (z : List ℕ). take o l ++ z) (sym (take-suc x i 0 a))) n);
 }
-
--- all of them
-pub laid-all : {x l s : List ℕ} {o m i : ℕ} → Laid x l o m s i → m ≤ i → s ≡ take o l ++ take m x ++ drop (o + m) l
-laid-all {x} {l} {s} {o} {m} {i} v h =
-    let e : i ≡ m = omega (arith, v .within) in
-    v .same ∙ ap (λ (j : ℕ). take o l ++ take j x ++ drop (o + j) l) e
 
 -- the same from the first place of the slice on
 pub front-within : {x l s : List ℕ} {m i : ℕ} → Laid x l 0 m s i → i < m → i < length s

@@ -1,121 +1,87 @@
--- A loop that gathers a line: at each turn, gathering what is left gives what gathering from the start on gives.
+-- A loop that lays more characters behind a line, as many as are kept: from its start, by one character more, to its end.
 -- Assumes nothing.
-use mathlib.Core.Path.{_≡_, refl, ap, sym, _∙_}
-use mathlib.Core.List.{List, [], _∷_, _++_, append-nil}
+use mathlib.Core.Path.{_≡_, ap, sym, _∙_}
+use mathlib.Core.List.{List, [], _∷_, _++_, append-nil, append-assoc}
 use Prim.Native.Nat.{ℕ, _+_, _≤_, _<_, min}
 use native.Mathlib.Numerals.{add-one}
 use native.Mathlib.Omega.{arith}
-use lib.ListN.{length, getD, take, drop, set, length-set, length-take, drop-of-length-le}
-use lib.Seq.{take-all, take-suc-set, take-append-le, length-take-le, drop-cons, append-snoc}
-use borrow.Author.Tests.{eq-eqb, ne-eqb}
-use Rattle.lines.specs.Lines.{lineFeed, plain}
+use lib.ListN.{length, getD, take, set, length-take, length-append}
+use lib.Seq.{take-all, take-suc, take-append-add, length-take-le}
 use Rattle.lines.specs.Reader.{keptChars, keptLine}
 use Rattle.lines.specs.Gather.{laid, longer, gathered}
-use Rattle.lines.proofs.Plain.{plain-feed, plain-more}
-use Rattle.lines.proofs.Tidied.{laid-length, laid-front, laid-more}
+use Rattle.lines.proofs.Tidied.{laid-front, laid-more}
 
--- the line so far stands in r, n characters of it; and the rest of the part is still to be gathered
-pub record Gathering (part r₀ : List ℕ) (n₀ i₀ : ℕ) (r : List ℕ) (n i : ℕ) : Type 0 where
-  pub size : length r ≡ keptChars
+-- behind the line b stand the first i of more characters, all of them within what is kept
+pub record Gathering (b more r : List ℕ) (n i : ℕ) : Type 0 where
+  pub most : i ≤ length more
   pub few : n ≤ keptChars
-  pub zeros : r ≡ laid (take n r)
-  pub rest : gathered r n part i ≡ gathered r₀ n₀ part i₀
+  pub count-is : n ≡ length b + i
+  pub same : r ≡ laid (b ++ take i more)
 
--- gathering goes by the line's characters, and by those before the next line feed
-module _ (line line′ part : List ℕ) (count count′ at at′ : ℕ) where
-  gathered-same : longer line count part at ≡ longer line′ count′ part at′
-      → at + length (plain (drop at part)) ≡ at′ + length (plain (drop at′ part))
-      → gathered line count part at ≡ gathered line′ count′ part at′
-  unfolding gathered
-  gathered-same e f = λ k. record { line = laid (e k); count = length (e k); at = f k }
+-- a line that is tidied and counted first has its characters at its front
+module _
+    (line : List ℕ)
+    (count : ℕ)
+    {r : List ℕ}
+    {n : ℕ}
+    (s : length line ≡ keptChars)
+    (t : r ≡ laid (take count line))
+    (m : n ≡ min count keptChars)
+  where
+    counted : length (take count line) ≡ n
+    counted = length-take count line ∙ ap (min count) s ∙ sym m
 
--- the line that is tidied and counted first
-module _ (line r : List ℕ) (count n : ℕ) (s : length line ≡ keptChars) (t : r ≡ laid (take count line)) (m : n ≡ min count keptChars) where
-  -- has the line's characters at its front
-  begun : take n r ≡ take count line
-  begun =
-      let e : length (take count line) ≡ n = length-take count line ∙ rw s (sym m) in
-      ap (take n) t ∙ ap (λ (j : ℕ). take j (laid (take count line))) (sym e) ∙ laid-front (take count line) (omega arith)
+    pub begun : take n r ≡ take count line
+    begun =
+        ap (take n) t ∙ ap (λ (j : ℕ). take j (laid (take count line))) (sym counted)
+        ∙ laid-front (take count line) (omega (arith, counted, m))
 
-  pub gathering-none : (part : List ℕ) (at : ℕ) → Gathering part r n at r n at
-  gathering-none part at = record {
-    size = ap length t ∙ laid-length (take count line);
-    few = omega arith;
-    zeros = t ∙ ap laid (sym begun);
-    rest = refl;
-  }
+    -- none of the others yet
+    pub gathering-none : (more : List ℕ) → Gathering (take n r) more r n 0
+    gathering-none more = record {
+      most = omega arith;
+      few = omega (arith, m);
+      count-is = omega (arith, ap length begun, counted);
+      same = t ∙ ap laid (sym begun ∙ sym (append-nil (take n r)));
+    }
 
-  -- gathering with it is gathering with the line
-  pub gathered-begun : (part : List ℕ) (at : ℕ) → gathered r n part at ≡ gathered line count part at
-  gathered-begun part at =
-      gathered-same r line part n count at at (ap (λ (x : List ℕ). keptLine (x ++ plain (drop at part))) begun) refl
+module _ {b more r : List ℕ} {n i : ℕ} (g : Gathering b more r n i) where
+  -- one more
+  pub gathering-more : i < length more → n < keptChars → Gathering b more (set r n (getD more i 0)) (n + 1) (i + 1)
+  gathering-more h k =
+      let c = getD more i 0 in
+      let t : take (i + 1) more ≡ take i more ++ (c ∷ []) = rw add-one (take-suc more i 0 h) in
+      let size : length (b ++ take i more) ≡ n =
+      length-append b (take i more) ∙ omega (arith, length-take-le i more (g .most), g .count-is) in
+      record {
+        most = omega arith;
+        few = omega arith;
+        count-is = omega (arith, g .count-is);
+        same =
+            laid-more (b ++ take i more) n c (g .same) size k
+            ∙ ap laid (append-assoc b (take i more) (c ∷ []) ∙ ap (λ (x : List ℕ). b ++ x) (sym t));
+      }
 
-module _ {part r₀ r : List ℕ} {n₀ i₀ n i : ℕ} (g : Gathering part r₀ n₀ i₀ r n i) where
-  counted : length (take n r) ≡ n
-  counted = length-take-le n r (omega (arith, g .size, g .few))
+  -- what is kept of the line with all of them is what stands there
+  module _ (line : List ℕ) (count : ℕ) (begins : b ≡ take count line) where
+    done : keptLine (b ++ more) ≡ b ++ take i more → record { line = r; count = n } ≡ gathered line count more
+    unfolding gathered
+    done all =
+        let e : b ++ take i more ≡ longer line count more = sym all ∙ ap (λ (x : List ℕ). keptLine (x ++ more)) begins in
+        let size : length (b ++ take i more) ≡ n =
+        length-append b (take i more) ∙ omega (arith, length-take-le i more (g .most), g .count-is) in
+        let l : r ≡ laid (longer line count more) = g .same ∙ ap laid e in
+        let m : n ≡ length (longer line count more) = sym size ∙ ap length e in
+        λ x. record { line = l x; count = m x }
 
-  -- nothing is left before the next line feed
-  done : plain (drop i part) ≡ [] → record { line = r; count = n; at = i } ≡ gathered r₀ n₀ part i₀
-  unfolding gathered
-  done e =
-      let k : longer r n part i ≡ take n r =
-      ap (λ (x : List ℕ). keptLine (take n r ++ x)) e ∙ ap keptLine (append-nil (take n r))
-      ∙ take-all keptChars (take n r) (omega (arith, counted, g .few)) in
-      let l : r ≡ laid (longer r n part i) = g .zeros ∙ ap laid (sym k) in
-      let m : n ≡ length (longer r n part i) = sym (ap length k ∙ counted) in
-      let j : i ≡ i + length (plain (drop i part)) = omega (arith, ap length e) in
-      (λ x. record { line = l x; count = m x; at = j x }) ∙ g .rest
+    -- since there are no others
+    pub gathering-end : length more ≤ i → record { line = r; count = n } ≡ gathered line count more
+    gathering-end h =
+        let size : length (b ++ more) ≤ keptChars = omega (arith, length-append b more, g .few, g .count-is) in
+        done (take-all keptChars (b ++ more) size ∙ ap (λ (x : List ℕ). b ++ x) (sym (take-all i more h)))
 
-  pub gathering-end : length part ≤ i → record { line = r; count = n; at = i } ≡ gathered r₀ n₀ part i₀
-  unfolding plain
-  gathering-end h = done (ap plain (drop-of-length-le part h))
-
-  -- a character is there
-  module _ (h : i < length part) where
-    next-char : drop i part ≡ getD part i 0 ∷ drop (i + 1) part
-    next-char = rw add-one (drop-cons part i 0 h)
-
-    pub gathering-feed : getD part i 0 ≡ lineFeed → record { line = r; count = n; at = i } ≡ gathered r₀ n₀ part i₀
-    gathering-feed e = done (ap plain next-char ∙ plain-feed (getD part i 0) (drop (i + 1) part) (eq-eqb (getD part i 0) lineFeed e))
-
-    -- and is no line feed
-    module _ (e : getD part i 0 ≡ lineFeed → ⊥) where
-      next-plain : plain (drop i part) ≡ getD part i 0 ∷ plain (drop (i + 1) part)
-      next-plain = ap plain next-char ∙ plain-more (getD part i 0) (drop (i + 1) part) (ne-eqb (getD part i 0) lineFeed e)
-
-      next-place : i + 1 + length (plain (drop (i + 1) part)) ≡ i + length (plain (drop i part))
-      next-place = omega (arith, ap length next-plain)
-
-      -- it is kept
-      pub gathering-more : n < keptChars → Gathering part r₀ n₀ i₀ (set r n (getD part i 0)) (n + 1) (i + 1)
-      gathering-more k =
-          let c = getD part i 0 in
-          let t : take (n + 1) (set r n c) ≡ take n r ++ (c ∷ []) = rw add-one (take-suc-set r n c (omega (arith, g .size))) in
-          record {
-            size = simp length-set (g .size);
-            few = omega arith;
-            zeros = laid-more (take n r) n c (g .zeros) counted k ∙ ap laid (sym t);
-            rest =
-                gathered-same (set r n c) r part (n + 1) n (i + 1) i
-                (ap (λ (x : List ℕ). keptLine (x ++ plain (drop (i + 1) part))) t
-                ∙ ap keptLine (append-snoc (take n r) c (plain (drop (i + 1) part)))
-                ∙ ap (λ (x : List ℕ). keptLine (take n r ++ x)) (sym next-plain))
-                next-place
-                ∙ g .rest;
-          }
-
-      -- or passed over
-      pub gathering-past : keptChars ≤ n → Gathering part r₀ n₀ i₀ r n (i + 1)
-      gathering-past k =
-          let full : keptChars ≤ length (take n r) = omega (arith, counted) in
-          record {
-            size = g .size;
-            few = g .few;
-            zeros = g .zeros;
-            rest =
-                gathered-same r r part n n (i + 1) i
-                (take-append-le keptChars (take n r) (plain (drop (i + 1) part)) full
-                ∙ sym (take-append-le keptChars (take n r) (plain (drop i part)) full))
-                next-place
-                ∙ g .rest;
-          }
+    -- or no more are kept
+    pub gathering-full : keptChars ≤ n → record { line = r; count = n } ≡ gathered line count more
+    gathering-full h =
+        let e : keptChars ≡ length b + i = omega (arith, g .few, g .count-is) in
+        done (ap (λ (k : ℕ). take k (b ++ more)) e ∙ take-append-add b more i)

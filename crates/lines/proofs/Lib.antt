@@ -1,4 +1,6 @@
+pub mod Finding
 pub mod Gathering
+pub mod Moving
 pub mod Plain
 pub mod Reader
 pub mod Refuted

@@ -40,7 +40,7 @@ plain-plain (c ∷ l) = by (plain-plain l) (eqb c lineFeed) refl
     by i true e = ap plain (plain-feed c l e) ∙ sym (plain-feed c l e)
     by i false e = rw e (rw e (ap (λ (x : List ℕ). c ∷ x) i))
 
-plain-most : (l : List ℕ) → length (plain l) ≤ length l
+pub plain-most : (l : List ℕ) → length (plain l) ≤ length l
 unfolding plain
 plain-most [] = omega arith
 plain-most (c ∷ l) = by (plain-most l) (eqb c lineFeed) refl
@@ -50,7 +50,7 @@ plain-most (c ∷ l) = by (plain-most l) (eqb c lineFeed) refl
     by i false e = rw e (omega arith)
 
 -- it is the front of the list
-plain-front : (l : List ℕ) → take (length (plain l)) l ≡ plain l
+pub plain-front : (l : List ℕ) → take (length (plain l)) l ≡ plain l
 unfolding plain
 plain-front [] = refl
 plain-front (c ∷ l) = by (plain-front l) (eqb c lineFeed) refl
@@ -59,17 +59,7 @@ plain-front (c ∷ l) = by (plain-front l) (eqb c lineFeed) refl
     by i true e = rw e
     by i false e = rw e (ap (λ (x : List ℕ). c ∷ x) i)
 
--- either it is the whole list
-pub plain-all : (l : List ℕ) → length l ≤ length (plain l) → plain l ≡ l
-unfolding plain
-plain-all [] h = refl
-plain-all (c ∷ l) h = by (plain-all l) (eqb c lineFeed) refl
-  where
-    by : (length l ≤ length (plain l) → plain l ≡ l) → (b : Bool) → eqb c lineFeed ≡ b → plain (c ∷ l) ≡ c ∷ l
-    by i true e = absurd (omega (arith, ap length (plain-feed c l e)))
-    by i false e = plain-more c l e ∙ ap (λ (x : List ℕ). c ∷ x) (i (omega (arith, ap length (plain-more c l e))))
-
--- or a line feed stands behind it
+-- where it is not the whole list, a line feed stands behind it
 plain-end : (l : List ℕ) → length (plain l) < length l → getD l (length (plain l)) 0 ≡ lineFeed
 unfolding plain
 plain-end [] h = absurd (not-suc-le-zero h)

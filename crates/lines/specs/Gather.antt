@@ -1,4 +1,4 @@
--- A line in an array of 511 characters, and what gathering more of it answers.
+-- A line in an array of 511 characters, what gathering more of it answers, and where a line ends.
 -- Assumes nothing.
 use mathlib.Core.List.{List, _++_}
 use Prim.Native.Nat.{ℕ, _+_}
@@ -12,14 +12,17 @@ use Rattle.lines.specs.Reader.{keptChars, keptLine}
 unfoldable pub laid : List ℕ → List ℕ
 laid l = filled keptChars l
 
--- the line that the first characters of an array are, with what a part has before its next line feed
-abbrev pub longer : List ℕ → ℕ → List ℕ → ℕ → List ℕ
-longer line count part at = keptLine (take count line ++ plain (drop at part))
+-- the line that the first characters of an array are, with more behind them
+abbrev pub longer : List ℕ → ℕ → List ℕ → List ℕ
+longer line count more = keptLine (take count line ++ more)
 
--- gathering more of it, from a place in the part on
-unfoldable pub gathered : List ℕ → ℕ → List ℕ → ℕ → Gathered
-gathered line count part at = record {
-  line = laid (longer line count part at);
-  count = length (longer line count part at);
-  at = at + length (plain (drop at part));
+-- gathering more of it
+unfoldable pub gathered : List ℕ → ℕ → List ℕ → Gathered
+gathered line count more = record {
+  line = laid (longer line count more);
+  count = length (longer line count more);
 }
+
+-- where the line that goes on at a place of a part ends: at its line feed, or where the part does
+abbrev pub lineEnd : List ℕ → ℕ → ℕ
+lineEnd part at = at + length (plain (drop at part))

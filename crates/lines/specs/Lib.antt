@@ -1,4 +1,5 @@
 pub mod Gather
 pub mod Lines
+pub mod Moves
 pub mod Promise
 pub mod Reader

@@ -7,7 +7,7 @@ use lib.ListN.{take}
 use Rattle.laws.proofs.Once.{once}
 use Rattle.lines.specs.declared.Gathered.{Gathered}
 use Rattle.lines.specs.Reader.{keptChars}
-use Rattle.lines.specs.Gather.{laid, gathered}
+use Rattle.lines.specs.Gather.{laid, gathered, lineEnd}
 
 -- tidy hands back the first characters of a line, with zeros behind them
 abbrev pub TidyPromise : List ℕ → ℕ → List ℕ → Type 0
@@ -25,11 +25,19 @@ HeldPromise count r = r ≡ min count keptChars
 pub held-once : (count r r′ : ℕ) → HeldPromise count r → HeldPromise count r′ → r ≡ r′
 held-once count r r′ p q = once p q
 
--- gather hands back the line with what the part has before its next line feed, and where reading stopped
-abbrev pub GatherPromise : List ℕ → ℕ → List ℕ → ℕ → Gathered → Type 0
-GatherPromise line count part at r = r ≡ gathered line count part at
+-- gather hands back the line with more characters behind it, as many as are kept
+abbrev pub GatherPromise : List ℕ → ℕ → List ℕ → Gathered → Type 0
+GatherPromise line count more r = r ≡ gathered line count more
 
 -- any two answers that gather may give are equal
-pub gather-once : (line : List ℕ) (count : ℕ) (part : List ℕ) (at : ℕ) (r r′ : Gathered) → GatherPromise line count part at r
-    → GatherPromise line count part at r′ → r ≡ r′
-gather-once line count part at r r′ p q = once p q
+pub gather-once : (line : List ℕ) (count : ℕ) (more : List ℕ) (r r′ : Gathered) → GatherPromise line count more r
+    → GatherPromise line count more r′ → r ≡ r′
+gather-once line count more r r′ p q = once p q
+
+-- find hands back where the line that goes on at a place of a part ends
+abbrev pub FindPromise : List ℕ → ℕ → ℕ → Type 0
+FindPromise part at r = r ≡ lineEnd part at
+
+-- any two answers that find may give are equal
+pub find-once : (part : List ℕ) (at r r′ : ℕ) → FindPromise part at r → FindPromise part at r′ → r ≡ r′
+find-once part at r r′ p q = once p q

@@ -14,10 +14,9 @@ use Rattle.laws.specs.Pick.{pick}
 use Rattle.lines.specs.Lines.{lineFeed}
 use Rattle.lines.specs.Reader.{keptChars, Reader, reads, said, closing}
 use Rattle.lines.proofs.Reader.{reads-append, said-append, reads-kept}
-use Rattle.answer.specs.Text.{textLength}
 use Rattle.session.specs.declared.State.{State}
 use Rattle.session.specs.declared.Stepped.{Stepped}
-use Rattle.session.specs.Session.{Session, begun, turnOf, tellOf, readerOf, stateOf, over}
+use Rattle.session.specs.Session.{Session, width, begun, turnOf, tellOf, readerOf, stateOf, over}
 use Rattle.session.specs.Check.{checkOutput}
 use Rattle.session.specs.Promise.{BeginPromise, StepPromise, FinishPromise}
 use Rattle.session.specs.Cut.{Call, Run, Offered, taken, wrote, InParts}
@@ -67,7 +66,7 @@ closing-most r = by (eqb (length (r .line)) 0)
     by false = omega arith
 
 -- so finish takes all of it, and writes what is said at it
-finish-over : (t : State) (space : List ℕ) {r : Stepped} {after : List ℕ} → textLength ≤ length space → FinishPromise t space r after
+finish-over : (t : State) (space : List ℕ) {r : Stepped} {after : List ℕ} → width ≤ length space → FinishPromise t space r after
     → take (r .written) after ≡ said turnOf tellOf (readerOf t) (closing (readerOf t))
 finish-over t space {r} room p =
     let end = closing (readerOf t) in
@@ -83,7 +82,7 @@ offered-taken s t [] [] run o = refl
 offered-taken s t [] (c ∷ cs) run o = absurd o
 offered-taken s t (p ∷ ps) [] run o = absurd o
 offered-taken s t (p ∷ ps) (c ∷ cs) run o =
-    let room : textLength * length (c .part) ≤ length (c .space) = rw (o .0) (o .1) in
+    let room : width * length (c .part) ≤ length (c .space) = rw (o .0) (o .1) in
     let all = taken-all s (c .part) (c .space) (run .0) room in
     let front : take (c .answer .taken) (c .part) ≡ p =
     ap (λ (n : ℕ). take n (c .part)) all ∙ take-all (length (c .part)) (c .part) (omega arith) ∙ o .0 in
@@ -97,7 +96,7 @@ run-begun : (s t : State) (calls : List Call) → BeginPromise s → Run s calls
 run-begun s t calls b run = run-reader s start calls t (ap readerOf b ∙ state-reader start (omega arith)) (omega arith) run
 
 ends : (s t : State) (calls : List Call) (space : List ℕ) {r : Stepped} {after : List ℕ} → BeginPromise s → Run s calls t
-    → textLength ≤ length space → FinishPromise t space r after → wrote calls ++ take (r .written) after ≡ checkOutput (taken calls)
+    → width ≤ length space → FinishPromise t space r after → wrote calls ++ take (r .written) after ≡ checkOutput (taken calls)
 ends s t calls space {r} {after} b run room p =
     let v = run-begun s t calls b run in
     let last = reads turnOf start (taken calls) in

@@ -1,19 +1,25 @@
 -- A state and the reader that it stands for.
 -- Assumes nothing.
 use mathlib.Core.Path.{_≡_, ap, sym, _∙_}
+use mathlib.Core.Bool.{Bool, true, false}
+use mathlib.Core.Logic.{⊎-elim}
 use mathlib.Core.List.{List, [], _∷_}
 use Prim.Native.Nat.{ℕ, _≤_, min}
 use native.Mathlib.Omega.{arith}
+use lib.Dec.{eqb}
 use lib.ListN.{length, take, replicate, length-take}
 use Rattle.keys.specs.declared.KeyAnswer.{KeyAnswer}
 use Rattle.keys.specs.Answer.{refusedKeys}
-use borrow.Author.Tests.{ne-eqb}
+use borrow.Author.Tests.{eq-eqb, ne-eqb}
+use Rattle.laws.specs.Pick.{pick}
+use Rattle.laws.proofs.Cases.{none-or-some}
 use Rattle.lines.specs.Lines.{lineFeed}
 use Rattle.lines.specs.Reader.{keptChars, Reader, closing}
 use Rattle.lines.specs.Gather.{laid}
-use Rattle.lines.proofs.Tidied.{laid-none, laid-front}
+use Rattle.lines.proofs.Tidied.{laid-none, laid-length, laid-front}
 use Rattle.session.specs.declared.State.{State}
 use Rattle.session.specs.Session.{Session, begun, readerOf, stateOf}
+use Rattle.session.specs.Inner.{Tidy, between}
 
 -- a reader whose line is within what is kept, out of its state again
 pub state-reader : (r : Reader Session) → length (r .line) ≤ keptChars → readerOf (stateOf r) ≡ r
@@ -24,6 +30,18 @@ state-reader r h = let e = laid-front (r .line) h in λ i. record { session = r 
 pub state-kept : (s : State) → length (s .line) ≡ keptChars → length (readerOf s .line) ≤ keptChars
 unfolding readerOf
 state-kept s h = omega (arith, length-take (s .count) (s .line))
+
+-- a state that was made of such a reader stands for it, and is tidy
+module _ {s : State} (r : Reader Session) (h : length (r .line) ≤ keptChars) (e : s ≡ stateOf r) where
+  pub made-reader : readerOf s ≡ r
+  made-reader = ap readerOf e ∙ state-reader r h
+
+  pub made-tidy : Tidy s
+  unfolding stateOf
+  made-tidy = record {
+    same = e ∙ ap stateOf (sym made-reader);
+    size = ap (λ (x : State). length (x .line)) e ∙ laid-length (r .line);
+  }
 
 -- a state in which no line is begun
 pub state-fresh : (a : Session)
@@ -45,8 +63,13 @@ state-tidied s size el en =
     let e = en ∙ sym (length-take (s .count) (s .line) ∙ ap (min (s .count)) size) in
     λ i. record { stage = s .stage; keys = s .keys; line = el i; count = e i }
 
+-- a state between two lines, where frames are awaited
+pub state-between : (s : State) → s .stage ≡ 1 → s .count ≡ 0 → readerOf s ≡ between (s .keys)
+unfolding readerOf
+state-between s e z = rw (e, z)
+
 -- what a state lacks at the end of the input: nothing where no line is begun, otherwise a line feed
-pub closing-none : (s : State) → s .count ≡ 0 → closing (readerOf s) ≡ []
+closing-none : (s : State) → s .count ≡ 0 → closing (readerOf s) ≡ []
 unfolding closing readerOf
 closing-none s z = rw z
 
@@ -54,3 +77,17 @@ pub closing-feed : (s : State) → length (s .line) ≡ keptChars → (s .count 
 unfolding closing readerOf
 closing-feed s size h =
     rw (ne-eqb (length (take (s .count) (s .line))) 0 (λ z. h (omega (arith, length-take (s .count) (s .line)))))
+
+-- so many of one line feed
+pub closing-lent : (s : State) {n : ℕ} → length (s .line) ≡ keptChars → n ≡ pick (eqb (s .count) 0) 0 1
+    → take n (lineFeed ∷ []) ≡ closing (readerOf s)
+closing-lent s size e =
+    ⊎-elim (λ z. rw (e, eq-eqb (s .count) 0 z) (sym (closing-none s z))) (λ h. rw (e, ne-eqb (s .count) 0 h) (sym (closing-feed s size h)))
+    (none-or-some (s .count))
+
+pub lacking-within : (count : ℕ) {n : ℕ} → n ≡ pick (eqb count 0) 0 1 → n ≤ 1
+lacking-within count e = by (eqb count 0) e
+  where
+    by : (b : Bool) {n : ℕ} → n ≡ pick b 0 1 → n ≤ 1
+    by true e = omega arith
+    by false e = omega arith

@@ -24,7 +24,7 @@ use Rattle.answer.specs.Line.{lineAnswer}
 use Rattle.answer.specs.Text.{textOf}
 use Rattle.answer.proofs.Answered.{answer-refused}
 use Rattle.session.specs.Check.{frameLines, underKeys, checkLines, checkOutput}
-use Rattle.session.specs.Session.{Session, sessionOf, keyTurn, keyTell, begun, turnOf, tellOf}
+use Rattle.session.specs.Session.{Session, sessionOf, keyTurn, keyTell, lineTell, begun, turnOf, tellOf}
 
 -- a line that is too long is answered alike, whatever it holds, and so what is kept of a line is answered as the line is
 alike : {A : Type 0} (f : List ℕ → A) (z : A) → ((l : List ℕ) → 510 < length l → f l ≡ z) → (l : List ℕ) → f (keptLine l) ≡ f l
@@ -48,12 +48,12 @@ unfolding turnOf
 turn-kept a l = rw (key-kept l)
 
 pub tell-kept : (a : Session) (l : List ℕ) → tellOf a (keptLine l) ≡ tellOf a l
-unfolding tellOf
+unfolding tellOf lineTell
 tell-kept a l = rw (key-kept l, line-kept (a .keys) l)
 
 -- frame lines under a key set
 answers-frames : (k : KeySet) (ls : List (List ℕ)) → answers turnOf tellOf (sessionOf 1 k) ls ≡ frameLines k ls
-unfolding answers frameLines turnOf tellOf
+unfolding answers frameLines turnOf tellOf lineTell
 answers-frames k [] = refl
 answers-frames k (l ∷ ls) = ap (λ (x : List ℕ). textOf (lineAnswer k l) ++ x) (answers-frames k ls)
 

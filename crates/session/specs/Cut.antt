@@ -6,9 +6,9 @@ use mathlib.Core.List.{List, [], _∷_, _++_}
 use Prim.Native.Nat.{ℕ, _*_, _≤_}
 use lib.ListN.{length, take}
 use Rattle.laws.specs.Joined.{joined}
-use Rattle.answer.specs.Text.{textLength}
 use Rattle.session.specs.declared.State.{State}
 use Rattle.session.specs.declared.Stepped.{Stepped}
+use Rattle.session.specs.Session.{width}
 use Rattle.session.specs.Check.{checkOutput}
 use Rattle.session.specs.Promise.{BeginPromise, IsOverPromise, StepPromise, FinishPromise}
 
@@ -39,23 +39,23 @@ abbrev pub Offered : List (List ℕ) → List Call → Type 0
 Offered [] [] = Unit {0}
 Offered [] (c ∷ cs) = ⊥
 Offered (p ∷ ps) [] = ⊥
-Offered (p ∷ ps) (c ∷ cs) = (c .part ≡ p) × (textLength * length p ≤ length (c .space)) × Offered ps cs
+Offered (p ∷ ps) (c ∷ cs) = (c .part ≡ p) × (width * length p ≤ length (c .space)) × Offered ps cs
 
 -- THE PROGRAM'S DEMAND. However an input is cut into parts, empty ones among them, and whatever room there was for the answers: what was
 -- written, with what finish writes at the end, is check's output for the bytes that were taken. And the bytes are taken
 pub record InParts : Type 0 where
   pub joined-is : (s t : State) (calls : List Call) (space after : List ℕ) (r : Stepped) → BeginPromise s → Run s calls t
-      → textLength ≤ length space → FinishPromise t space r after
+      → width ≤ length space → FinishPromise t space r after
       → wrote calls ++ take (r .written) after ≡ checkOutput (taken calls)
   -- so for every cut of the input, where each part has room for its answers
   pub every-cut : (parts : List (List ℕ)) (s t : State) (calls : List Call) (space after : List ℕ) (r : Stepped) → BeginPromise s
-      → Run s calls t → Offered parts calls → textLength ≤ length space → FinishPromise t space r after
+      → Run s calls t → Offered parts calls → width ≤ length space → FinishPromise t space r after
       → wrote calls ++ take (r .written) after ≡ checkOutput (joined parts)
   -- where it is over before the input ends, what was written is the output, whatever comes behind
   pub over-early : (s t : State) (calls : List Call) (rest : List ℕ) → BeginPromise s → Run s calls t → IsOverPromise t true
       → wrote calls ≡ checkOutput (taken calls ++ rest)
   -- each byte of a part is taken where there is room for an answer at each, and at least one where there is room for one
   pub takes-all : (s : State) (part space after : List ℕ) (r : Stepped) → StepPromise s part space r after
-      → textLength * length part ≤ length space → r .taken ≡ length part
+      → width * length part ≤ length space → r .taken ≡ length part
   pub takes-some : (s : State) (part space after : List ℕ) (r : Stepped) → StepPromise s part space r after
-      → textLength ≤ length space → 1 ≤ length part → 1 ≤ r .taken
+      → width ≤ length space → 1 ≤ length part → 1 ≤ r .taken

@@ -1,39 +1,64 @@
 -- What the inner functions of the step ask and hand back. No promise speaks of it, and no reader need believe it.
 -- Assumes nothing.
 use mathlib.Core.Path.{_≡_}
-use mathlib.Core.List.{List, [], _++_}
-use Prim.Native.Nat.{ℕ, _+_, _-_, _≤_, _<_}
-use lib.ListN.{length, take, drop}
-use Rattle.laws.specs.Pick.{pick}
-use Rattle.lines.specs.Reader.{reads, said, takes}
-use Rattle.answer.specs.Text.{textLength}
+use mathlib.Core.List.{List, []}
+use Prim.Native.Nat.{ℕ, _+_, _≤_, _<_}
+use lib.ListN.{length}
+use Rattle.keys.specs.declared.KeySet.{KeySet}
+use Rattle.lines.specs.Reader.{keptChars, Reader}
+use Rattle.lines.specs.Moves.{Wrote, Moves}
 use Rattle.session.specs.declared.State.{State}
 use Rattle.session.specs.declared.Told.{Told}
 use Rattle.session.specs.declared.Turn.{Turn}
-use Rattle.session.specs.Session.{Session, turnOf, tellOf, readerOf, stateOf}
+use Rattle.session.specs.declared.Span.{Span}
+use Rattle.session.specs.Session.{Session, hasKeys, width, sessionOf, turnOf, tellOf, readerOf, stateOf}
 
--- what a line has made of a session, and the text that is told at it
-pub record Tells (turned : Session) (told : List ℕ) (r : Told) : Type 0 where
-  pub session : record { stage = r .stage; keys = r .keys } ≡ turned
-  pub text : pick (r .says) (r .text) [] ≡ told
+-- what a line has made of a session, and the text that was written at it
+pub record Tells (turned : Session) (told space : List ℕ) (out : ℕ) (r : Told) (after : List ℕ) : Type 0 where
+  pub session : sessionOf (r .stage) (r .keys) ≡ turned
+  pub text : Wrote told space out (r .written) after
 
--- a turn may be taken: the state is tidy, there is more to take, and room for an answer
+-- so of a session and a line
+abbrev pub TellsLine : Session → List ℕ → List ℕ → ℕ → Told → List ℕ → Type 0
+TellsLine a line space out r after = Tells (turnOf a line) (tellOf a line) space out r after
+
+-- a move of the reader of sessions
+abbrev pub Passes : List ℕ → Reader Session → ℕ → ℕ → List ℕ → Reader Session → ℕ → ℕ → List ℕ → Type 0
+Passes part r at out space r′ at′ out′ space′ = Moves turnOf tellOf width part r at out space r′ at′ out′ space′
+
+-- a state that has nothing behind the characters of its line
+pub record Tidy (s : State) : Type 0 where
+  pub same : s ≡ stateOf (readerOf s)
+  pub size : length (s .line) ≡ keptChars
+
+-- a turn from a place of a part on may be taken: the state is tidy, there is more to take, and room for a text
 pub record Ready (s : State) (part : List ℕ) (at : ℕ) (space : List ℕ) (out : ℕ) : Type 0 where
-  pub tidy : s ≡ stateOf (readerOf s)
+  pub tidy : Tidy s
   pub more : at < length part
-  pub room : out + textLength ≤ length space
+  pub room : out + width ≤ length space
 
--- a turn taken: some characters more, the reader after them, and behind what was written what it says over them
+-- a turn taken: some characters more
 pub record Turned (s : State) (part : List ℕ) (at : ℕ) (space : List ℕ) (out : ℕ) (r : Turn) (after : List ℕ) : Type 0 where
-  pub taken : ℕ
-  pub some : 1 ≤ taken
-  pub most : at + taken ≤ length part
-  pub at-is : r .at ≡ at + taken
-  pub state-is : r .state ≡ stateOf (reads turnOf (readerOf s) (take taken (drop at part)))
-  pub room : r .out ≤ length space
-  pub out-is : r .out ≡ out + length (said turnOf tellOf (readerOf s) (take taken (drop at part)))
-  pub space-is : after ≡ take out space ++ said turnOf tellOf (readerOf s) (take taken (drop at part)) ++ drop (r .out) space
-  pub goes-on : takes turnOf tellOf textLength (readerOf s) (length space - out) (drop at part)
-      ≡ taken
-      + takes turnOf tellOf textLength (reads turnOf (readerOf s) (take taken (drop at part))) (length space - r .out)
-      (drop (at + taken) part)
+  pub tidy : Tidy (r .state)
+  pub some : at < r .at
+  pub moves : Passes part (readerOf s) at out space (readerOf (r .state)) (r .at) (r .out) after
+
+-- a place of a part, and one of a space, from which lines may be read
+pub record Within (part : List ℕ) (at : ℕ) (space : List ℕ) (out : ℕ) : Type 0 where
+  pub most : at ≤ length part
+  pub room : out ≤ length space
+
+-- the reader between two lines, where frames are awaited
+abbrev pub between : KeySet → Reader Session
+between keys = record { session = sessionOf hasKeys keys; line = [] }
+
+-- lines read where they lie: the reader is between lines again
+abbrev pub Spans : KeySet → List ℕ → ℕ → List ℕ → ℕ → Span → List ℕ → Type 0
+Spans keys part at space out r after = Passes part (between keys) at out space (between keys) (r .at) (r .out) after
+
+-- a turn gone on with: none or some characters more, and the state as it is
+pub record Passed (t : Turn) (part space : List ℕ) (r : Turn) (after : List ℕ) : Type 0 where
+  pub same : r .state ≡ t .state
+  pub tidy : Tidy (r .state)
+  pub forth : t .at ≤ r .at
+  pub moves : Passes part (readerOf (t .state)) (t .at) (t .out) space (readerOf (r .state)) (r .at) (r .out) after

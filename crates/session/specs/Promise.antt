@@ -7,10 +7,9 @@ use Prim.Native.Nat.{ℕ}
 use lib.ListN.{length, take, drop}
 use Rattle.laws.proofs.Once.{once}
 use Rattle.lines.specs.Reader.{reads, said, takes, closing}
-use Rattle.answer.specs.Text.{textLength}
 use Rattle.session.specs.declared.State.{State}
 use Rattle.session.specs.declared.Stepped.{Stepped}
-use Rattle.session.specs.Session.{begun, turnOf, tellOf, readerOf, stateOf, over}
+use Rattle.session.specs.Session.{width, begun, turnOf, tellOf, readerOf, stateOf, over}
 
 -- begin hands back the state at the start: the key line is awaited, and no line is begun
 abbrev pub BeginPromise : State → Type 0
@@ -30,7 +29,7 @@ is-over-once s r r′ p q = once p q
 
 -- how many bytes of a part are taken with so much room: as long as there is room for another answer
 unfoldable pub takenOf : State → List ℕ → ℕ → ℕ
-takenOf s part room = takes turnOf tellOf textLength (readerOf s) room part
+takenOf s part room = takes turnOf tellOf width (readerOf s) room part
 
 -- what is said over the first n bytes of a part
 unfoldable pub saidOver : State → List ℕ → ℕ → List ℕ

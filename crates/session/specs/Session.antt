@@ -16,7 +16,7 @@ use Rattle.frame.specs.Frame.{refusedFrame}
 use Rattle.lines.specs.Reader.{Reader}
 use Rattle.lines.specs.Gather.{laid}
 use Rattle.answer.specs.Line.{lineAnswer}
-use Rattle.answer.specs.Text.{textOf}
+use Rattle.answer.specs.Text.{textLength, textOf}
 use Rattle.session.specs.declared.State.{State}
 
 -- the stages: the key line is awaited
@@ -30,6 +30,10 @@ hasKeys = 1
 -- it was refused, and nothing more is answered
 abbrev pub isOver : ℕ
 isOver = 2
+
+-- how long the text at a line may be
+abbrev pub width : ℕ
+width = textLength
 
 -- a session: its stage and its key set
 pub record Session : Type 0 where
@@ -48,6 +52,10 @@ keyTurn made = record { stage = pick (eqb (made .number) done) hasKeys isOver; k
 unfoldable pub keyTell : KeyAnswer → List ℕ
 keyTell made = pick (eqb (made .number) done) [] (textOf (refusedFrame (made .number)))
 
+-- what is told at a line behind it: the verdict on a frame
+unfoldable pub lineTell : KeySet → List ℕ → List ℕ
+lineTell keys line = textOf (lineAnswer keys line)
+
 -- after a line
 unfoldable pub turnOf : Session → List ℕ → Session
 turnOf a line = pick (eqb (a .stage) awaitsKeys) (keyTurn (keyLineAnswer line)) a
@@ -55,8 +63,7 @@ turnOf a line = pick (eqb (a .stage) awaitsKeys) (keyTurn (keyLineAnswer line)) 
 -- what is told at it
 unfoldable pub tellOf : Session → List ℕ → List ℕ
 tellOf a line =
-    pick (eqb (a .stage) awaitsKeys) (keyTell (keyLineAnswer line))
-    (pick (eqb (a .stage) hasKeys) (textOf (lineAnswer (a .keys) line)) [])
+    pick (eqb (a .stage) awaitsKeys) (keyTell (keyLineAnswer line)) (pick (eqb (a .stage) hasKeys) (lineTell (a .keys) line) [])
 
 -- the session at the start
 unfoldable pub begun : Session

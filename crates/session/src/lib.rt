@@ -1,20 +1,21 @@
-// The checking program's step: what it makes of some bytes of its input, however that is cut. The first
-// line is the key line; each later line is a frame, and is answered by a line. A refused key line is
-// answered, and then nothing is.
+// The step of a program of lines: what it makes of some bytes of its input, however that is cut. The
+// first line is the key line. Each later line is a frame, which check answers by a line. A refused key
+// line is answered, and then nothing is.
 //
 //     let s = session::begin();
 //     let a = session::step(s, &part, &mut space);    // a.taken bytes of the part are read, and the
 //                                                     // answers are &space[..a.written]
 //     let e = session::finish(a.state, &mut space);    // a last line may lack its line feed
 ghost use mathlib.Core.Path.{_≡_};
-ghost use mathlib.Core.List.{[], _++_};
-ghost use lib.Dec.{leb, ltb};
-ghost use lib.ListN.{length, take, drop};
+ghost use mathlib.Core.List.{[]};
+ghost use lib.Dec.{eqb, leb, ltb};
+ghost use lib.ListN.{length};
 ghost use Prim.Native.Nat.{_+_, _-_, _≤_};
 ghost use Rattle.laws.specs.Agree.{both};
-ghost use Rattle.answer.specs.Text.{textLength};
-ghost use Rattle.session.specs.Session.{keyTurn, keyTell, turnOf, tellOf, sessionOf, readerOf, stateOf};
-ghost use Rattle.session.specs.Inner.{Tells, Ready, Turned};
+ghost use Rattle.laws.specs.Pick.{pick};
+ghost use Rattle.session.specs.Session.{width, keyTurn, keyTell, lineTell, sessionOf, readerOf, stateOf};
+ghost use Rattle.lines.specs.Moves.{Wrote};
+ghost use Rattle.session.specs.Inner.{Tells, TellsLine, Ready, Turned, Tidy, Within, Spans, Passed};
 ghost use Rattle.session.specs.Promise.{BeginPromise, IsOverPromise, StepPromise, FinishPromise};
 use answer::ANSWER;
 use keys::KeyAnswer;
@@ -29,6 +30,9 @@ const AWAITS_KEYS: u8 = 0;
 const HAS_KEYS: u8 = 1;
 
 const OVER: u8 = 2;
+
+// How long the text at a line may be.
+pub const WIDTH: usize = ANSWER;
 
 // What is kept from one part of the input to the next: what the lines so far have made of it, and the
 // line that is begun.
@@ -47,17 +51,22 @@ pub struct Stepped {
     pub written: usize,
 }
 
-// What a line makes of a session, and what is told at it: the text, or nothing.
+// What a line makes of a session, and how long the text is that was told at it.
 struct Told {
     stage: u8,
     keys: KeySet,
-    says: bool,
-    text: [u8; ANSWER],
+    written: usize,
 }
 
 // The state so far, and how many bytes were taken and written for it.
 struct Turn {
     state: State,
+    at: usize,
+    out: usize,
+}
+
+// How many bytes were taken and written so far.
+struct Span {
     at: usize,
     out: usize,
 }
@@ -83,47 +92,55 @@ pub fn is_over(s: State) -> bool
     s.stage >= OVER
 }
 
-// After the key line.
-fn keys_told(made: KeyAnswer) -> Told
-    ensures { λ r. ⌜ Tells (keyTurn made) (keyTell made) r ⌝ }
+// Tells the answer to a line behind the key line, in the space from a place on: how long it is.
+fn tell<'a>(keys: KeySet, line: &'a [u8], space: &'a mut [u8], out: usize) -> usize
+    requires { ⌜ out + width ≤ length (now space) ⌝ }
+    ensures { λ r. ⌜ Wrote (lineTell keys (now (line .entry))) (now (space .entry)) out r (now (space .exit)) ⌝ }
+{
+    answer::tell(answer::of_line(keys, line), &mut space[out..])
+}
+
+// After the key line: where it is refused, that is told.
+fn keys_told(made: KeyAnswer, space: &mut [u8], out: usize) -> Told
+    requires { ⌜ out + width ≤ length (now space) ⌝ }
+    ensures { λ r. ⌜ Tells (keyTurn made) (keyTell made) (now (space .entry)) out r (now (space .exit)) ⌝ }
 {
     let keys = made.keys;
     if made.number == DONE {
         return Told {
             stage: HAS_KEYS,
             keys,
-            says: false,
-            text: [0; ANSWER],
+            written: 0,
         };
     }
+    let written = answer::tell(frame::refused(made.number), &mut space[out..]);
     Told {
         stage: OVER,
         keys,
-        says: true,
-        text: answer::text(frame::refused(made.number)),
+        written,
     }
 }
 
 // After a line.
-fn line_told(stage: u8, keys: KeySet, line: &[u8]) -> Told
-    ensures { λ r. ⌜ Tells (turnOf (sessionOf stage keys) (now (line .entry))) (tellOf (sessionOf stage keys) (now (line .entry))) r ⌝ }
+fn line_told<'a>(stage: u8, keys: KeySet, line: &'a [u8], space: &'a mut [u8], out: usize) -> Told
+    requires { ⌜ out + width ≤ length (now space) ⌝ }
+    ensures { λ r. ⌜ TellsLine (sessionOf stage keys) (now (line .entry)) (now (space .entry)) out r (now (space .exit)) ⌝ }
 {
     if stage == AWAITS_KEYS {
-        return keys_told(keyline::read(line));
+        return keys_told(keyline::read(line), space, out);
     }
     if stage == HAS_KEYS {
+        let written = tell(keys, line, space, out);
         return Told {
             stage,
             keys,
-            says: true,
-            text: answer::text(answer::of_line(keys, line)),
+            written,
         };
     }
     Told {
         stage,
         keys,
-        says: false,
-        text: [0; ANSWER],
+        written: 0,
     }
 }
 
@@ -140,18 +157,6 @@ fn fresh(t: Told) -> State
     }
 }
 
-// A text, laid in the space from a place on.
-fn lay(text: [u8; ANSWER], space: &mut [u8], out: usize)
-    requires { ⌜ out + textLength ≤ length (now space) ⌝ }
-    ensures { λ _. ⌜ now (space .exit) ≡ take out (now (space .entry)) ++ text ++ drop (out + textLength) (now (space .entry)) ⌝ }
-{
-    let mut i: usize = 0;
-    while i < ANSWER {
-        space[out + i] = text[i];
-        i += 1;
-    }
-}
-
 // One line more, or what the part has of it: its characters are gathered, and where its line feed is
 // there too, it is answered.
 fn take_turn<'a>(s: State, part: &'a [u8], at: usize, space: &'a mut [u8], out: usize) -> Turn
@@ -160,10 +165,10 @@ fn take_turn<'a>(s: State, part: &'a [u8], at: usize, space: &'a mut [u8], out: 
 {
     let before = s.line;
     let keys = s.keys;
-    let g = lines::gather(before, s.count, part, at);
+    let end = lines::find(part, at);
+    let g = lines::gather(before, s.count, &part[at..end]);
     let line = g.line;
     let count = g.count;
-    let end = g.at;
     if end >= part.len() {
         let state = State {
             stage: s.stage,
@@ -177,27 +182,18 @@ fn take_turn<'a>(s: State, part: &'a [u8], at: usize, space: &'a mut [u8], out: 
             out,
         };
     }
-    let t = line_told(s.stage, keys, &line[..count]);
+    let t = line_told(s.stage, keys, &line[..count], space, out);
     let state = fresh(t);
-    if !t.says {
-        return Turn {
-            state,
-            at: end + 1,
-            out,
-        };
-    }
-    let text = t.text;
-    lay(text, space, out);
     Turn {
         state,
         at: end + 1,
-        out: out + ANSWER,
+        out: out + t.written,
     }
 }
 
-// Whether there is more to take, and room for another answer.
+// Whether there is more to take, and room for another text.
 fn goes(at: usize, end: usize, out: usize, room: usize) -> bool
-    ensures { λ r. ⌜ r ≡ both (ltb at end) (leb textLength (room - out)) ⌝ }
+    ensures { λ r. ⌜ r ≡ both (ltb at end) (leb width (room - out)) ⌝ }
 {
     if at >= end {
         return false;
@@ -205,7 +201,47 @@ fn goes(at: usize, end: usize, out: usize, room: usize) -> bool
     if out >= room {
         return false;
     }
-    room - out >= ANSWER
+    room - out >= WIDTH
+}
+
+// The lines that lie whole in a part, from the start of one on, each read where it lies: the keys stay
+// where they are, and no state is made for a line.
+fn whole_lines<'a>(keys: KeySet, part: &'a [u8], at: usize, space: &'a mut [u8], out: usize) -> Span
+    requires { ⌜ Within (now part) at (now space) out ⌝ }
+    ensures { λ r. ⌜ Spans keys (now (part .entry)) at (now (space .entry)) out r (now (space .exit)) ⌝ }
+{
+    let mut i = at;
+    let mut o = out;
+    while goes(i, part.len(), o, space.len()) {
+        let stop = lines::find(part, i);
+        if stop >= part.len() {
+            return Span { at: i, out: o };
+        }
+        o += tell(keys, &part[i..stop], space, o);
+        i = stop + 1;
+    }
+    Span { at: i, out: o }
+}
+
+// Where the key line has come and no line is begun, the lines that lie whole in the part.
+fn pass_whole<'a>(t: Turn, part: &'a [u8], space: &'a mut [u8]) -> Turn
+    requires { ⌜ Tidy (t .state) × Within (now part) (t .at) (now space) (t .out) ⌝ }
+    ensures { λ r. ⌜ Passed t (now (part .entry)) (now (space .entry)) r (now (space .exit)) ⌝ }
+{
+    let s = t.state;
+    if s.stage != HAS_KEYS {
+        return t;
+    }
+    if s.count != 0 {
+        return t;
+    }
+    let keys = s.keys;
+    let w = whole_lines(keys, part, t.at, space, t.out);
+    Turn {
+        state: s,
+        at: w.at,
+        out: w.out,
+    }
 }
 
 // The state with nothing behind the characters of its line.
@@ -222,18 +258,22 @@ fn tidied(s: State) -> State
     }
 }
 
-// Takes as much of a part as the space has room for the answers to; with a space under 21 bytes, nothing.
+// Takes as much of a part as the space has room for the answers to; with a space under WIDTH, nothing. A
+// line that lies whole in the part is read where it lies; one that goes on behind it, or that was begun
+// before it, is gathered, and so is the key line.
 pub fn step<'a>(s: State, part: &'a [u8], space: &'a mut [u8]) -> Stepped
     ensures { λ r. ⌜ StepPromise s (now (part .entry)) (now (space .entry)) r (now (space .exit)) ⌝ }
 {
-    let mut t = Turn {
+    let start = Turn {
         state: tidied(s),
         at: 0,
         out: 0,
     };
+    let mut t = pass_whole(start, part, space);
     while goes(t.at, part.len(), t.out, space.len()) {
         let before = t.state;
-        let next = take_turn(before, part, t.at, space, t.out);
+        let gathered = take_turn(before, part, t.at, space, t.out);
+        let next = pass_whole(gathered, part, space);
         t = next;
     }
     let state = t.state;
@@ -244,13 +284,19 @@ pub fn step<'a>(s: State, part: &'a [u8], space: &'a mut [u8]) -> Stepped
     }
 }
 
-// The end of the input: a last line may lack its line feed. It wants a space of 21 bytes, as step does.
+// How many line feeds a line of so many characters lacks at the end of the input: none where no line is
+// begun.
+fn lacking(count: usize) -> usize
+    ensures { λ r. ⌜ r ≡ pick (eqb count 0) 0 1 ⌝ }
+{
+    if count == 0 { 0 } else { 1 }
+}
+
+// The end of the input: a last line may lack its line feed. It wants a space of WIDTH, as step does.
 pub fn finish(s: State, space: &mut [u8]) -> Stepped
     ensures { λ r. ⌜ FinishPromise s (now (space .entry)) r (now (space .exit)) ⌝ }
 {
     let feed = [LINE_FEED];
-    if s.count == 0 {
-        return step(s, &feed[..0], space);
-    }
-    step(s, &feed, space)
+    let end = lacking(s.count);
+    step(s, &feed[..end], space)
 }

@@ -1,21 +1,18 @@
--- `lines::gather` meets its contract. At each turn, gathering what is left of the part gives what is promised, and as many turns are
--- left as characters are.
+-- `lines::gather` meets its contract. At each turn the characters so far stand behind the line, and as many turns are left as
+-- characters are.
 -- Assumes nothing.
-use mathlib.Core.Path.{_∙_}
-use mathlib.Core.Logic.{⊎-elim}
 use Prim.Native.Nat.{_-_}
-use lib.ListN.{length}
-use Rattle.lines.proofs.Gathering.{Gathering, gathering-none, gathered-begun, gathering-feed, gathering-end}
-use Rattle.lines.proofs.Gathering.{gathering-more, gathering-past}
+use lib.ListN.{length, take}
+use Rattle.lines.proofs.Gathering.{Gathering, begun, gathering-none, gathering-more, gathering-end, gathering-full}
 use borrow.Author.Needs.{needs}
 use Rattle.lines.proofs.gather.Statement.{statement}
 use Rattle.lines.proofs.gather.Tie as tie
 
 abbrev Inv-loop : tie.InvT-loop
-Inv-loop count part at r₀ n₀ i₀ r n i = Gathering part r₀ n₀ i₀ r n i
+Inv-loop count more r₀ n₀ i₀ r n i = Gathering (take n₀ r₀) more r n i
 
 abbrev μ-loop : tie.MeasureT-loop
-μ-loop count part at r₀ n₀ i₀ r n i = length part - i
+μ-loop count more r₀ n₀ i₀ r n i = length more - i
 
 tidy-requires : tie.Need-tidy-requires Inv-loop μ-loop
 tidy-requires c κs = search needs
@@ -26,17 +23,18 @@ held-requires c κs = search needs
 loop-holds : tie.Need-loop-holds Inv-loop μ-loop
 loop-holds c =
     let a = c .before .before .before .args in
-    gathering-none (a .line) _ (a .count) _ (search needs) (c .before .tidy .ensures) (c .held .ensures) _ _
-
-shared-slice-read-c : tie.Need-shared-slice-read-c Inv-loop μ-loop
-shared-slice-read-c c = search needs
+    gathering-none (a .line) (a .count) (search needs) (c .before .tidy .ensures) (c .held .ensures) _
 
 returns : tie.Need-returns Inv-loop μ-loop
 returns c =
-    let h = c .before .before .before .before in
-    let a = h .before .before .before .args in
-    gathering-feed (c .before .before .before .loop .inv) (search needs) (c .if1 .taken)
-    ∙ gathered-begun (a .line) _ (a .count) _ (search needs) (h .before .tidy .ensures) (h .held .ensures) _ _
+    let at-loop = c .before .before in
+    let at-held = at-loop .before in
+    let a = at-held .before .before .before .args in
+    gathering-full (at-loop .loop .inv) (a .line) (a .count)
+    (begun (a .line) (a .count) (search needs) (at-held .before .tidy .ensures) (at-held .held .ensures)) (c .if1 .taken)
+
+shared-slice-read-r : tie.Need-shared-slice-read-r Inv-loop μ-loop
+shared-slice-read-r c = search needs
 
 array-write-r : tie.Need-array-write-r Inv-loop μ-loop
 array-write-r c = search needs
@@ -51,18 +49,15 @@ loop-less : tie.Need-loop-less Inv-loop μ-loop
 loop-less c = search needs
 
 loop-again : tie.Need-loop-again Inv-loop μ-loop
-loop-again c =
-    let g = c .before .before .before .before .loop .inv in
-    ⊎-elim (λ w. rw (w .1, w .2) (gathering-more g (search needs) (c .before .if1 .left) (search needs)))
-    (λ w. rw (w .1, w .2) (gathering-past g (search needs) (c .before .if1 .left) (search needs)))
-    (c .if2 .came)
+loop-again c = gathering-more (c .before .before .before .loop .inv) (search needs) (search needs)
 
 returns-2 : tie.Need-returns-2 Inv-loop μ-loop
 returns-2 c =
-    let h = c .before .before in
-    let a = h .before .before .before .args in
-    gathering-end (c .before .loop .inv) (search needs)
-    ∙ gathered-begun (a .line) _ (a .count) _ (search needs) (h .before .tidy .ensures) (h .held .ensures) _ _
+    let at-loop = c .before in
+    let at-held = at-loop .before in
+    let a = at-held .before .before .before .args in
+    gathering-end (at-loop .loop .inv) (a .line) (a .count)
+    (begun (a .line) (a .count) (search needs) (at-held .before .tidy .ensures) (at-held .held .ensures)) (c .loop-test .left)
 
 pub gather-spec : {M : Type 1} → statement M
 gather-spec =
@@ -73,8 +68,8 @@ gather-spec =
     tidy-requires
     held-requires
     loop-holds
-    shared-slice-read-c
     returns
+    shared-slice-read-r
     array-write-r
     add-n
     add-i

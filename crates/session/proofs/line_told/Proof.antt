@@ -12,27 +12,32 @@ read-requires c κs = search needs
 keys-told-requires : tie.Need-keys-told-requires
 keys-told-requires c κs = search needs
 
+same-length : tie.Need-same-length
+same-length c = search needs
+
 returns : tie.Need-returns
 returns c =
-    let a = c .before .before .before .before .args in
-    tells-keys (sessionOf (a .stage) (a .keys)) _ (c .before .before .if1 .taken) (c .before .read .ensures) (c .keys-told .ensures)
+    let at-read = c .before .before .before .before in
+    let a = at-read .before .before .before .before .args in
+    tells-keys (sessionOf (a .stage) (a .keys)) _ _ _ (at-read .before .if1 .taken) (at-read .read .ensures)
+    (c .before .before .keys-told .ensures)
 
-of-line-requires : tie.Need-of-line-requires
-of-line-requires c κs = search needs
+tell-requires : tie.Need-tell-requires
+tell-requires c κs = search needs
 
-text-requires : tie.Need-text-requires
-text-requires c κs = search needs
+same-length-2 : tie.Need-same-length-2
+same-length-2 c = search needs
 
 returns-2 : tie.Need-returns-2
 returns-2 c =
-    let a = c .before .before .before .before .before .args in
-    tells-frame (sessionOf (a .stage) (a .keys)) _ (c .before .before .before .if1 .left) (c .before .before .if2 .taken)
-    (c .before .of-line .ensures) (c .text .ensures)
+    let at-if = c .before .before .before .before in
+    let a = at-if .before .before .before .before .args in
+    tells-frame (sessionOf (a .stage) (a .keys)) _ _ _ (at-if .before .if1 .left) (at-if .if2 .taken) (c .before .before .tell .ensures)
 
 returns-3 : tie.Need-returns-3
 returns-3 c =
-    let a = c .before .before .before .args in
-    tells-nothing (sessionOf (a .stage) (a .keys)) _ _ (c .before .if1 .left) (c .if2 .left)
+    let a = c .before .before .before .before .args in
+    tells-nothing (sessionOf (a .stage) (a .keys)) _ _ _ (c .before .if1 .left) (c .if2 .left)
 
 pub line-told-spec : {M : Type 1} → statement M
 line-told-spec =
@@ -40,8 +45,9 @@ line-told-spec =
     (tie.spec
     read-requires
     keys-told-requires
+    same-length
     returns
-    of-line-requires
-    text-requires
+    tell-requires
+    same-length-2
     returns-2
     returns-3)

@@ -1,16 +1,20 @@
--- `session::step` meets its contract. Turn by turn, until the part is at its end or there is no room for another answer.
+-- `session::step` meets its contract. Whole lines first, then turn by turn, until the part is at its end or there is no room for another
+-- text.
 -- Assumes nothing.
-use mathlib.Core.Path.{_≡_, refl}
+use mathlib.Core.Path.{_≡_, _∙_}
 use Prim.Native.Nat.{_-_}
 use lib.ListN.{length}
-use Rattle.session.proofs.Stepping.{Stepping, stepping-none, stepping-length, stepping-ready, stepping-more, stepping-all}
-use Rattle.session.proofs.Stepping.{stepping-stops, turned-less, test-goes, test-stops, tidied-tidy, tidied-step}
+use Rattle.lines.proofs.Moving.{moves-length}
+use Rattle.session.specs.Session.{width, turnOf, tellOf}
+use Rattle.session.specs.Inner.{Ready}
+use Rattle.session.proofs.Stepping.{Stepping, begins-within, stepping-none, passes-within, stepping-length, stepping-ready}
+use Rattle.session.proofs.Stepping.{stepping-more, stepping-less, none-left, step-all, step-passed, tidied-tidy, tidied-step}
 use borrow.Author.Needs.{needs}
 use Rattle.session.proofs.step.Statement.{statement}
 use Rattle.session.proofs.step.Tie as tie
 
 abbrev Inv-loop : tie.InvT-loop
-Inv-loop part space₀ t₀ space t = (length (t₀ .state .line) ≡ 511) × Stepping (t₀ .state) part space₀ t space
+Inv-loop part space₀ t₀ space t = Stepping t₀ part space₀ t space
 
 abbrev μ-loop : tie.MeasureT-loop
 μ-loop part space₀ t₀ space t = length part - t .at
@@ -18,53 +22,66 @@ abbrev μ-loop : tie.MeasureT-loop
 size : (c : tie.Start Inv-loop μ-loop) → length (c .args .s .line) ≡ 511
 size c = search needs
 
-tidied-size : (c : tie.After-tidied Inv-loop μ-loop) → length (c .tidied .result .line) ≡ 511
-tidied-size c = search needs
+-- a turn may be taken
+ready : (c : tie.Then1 Inv-loop μ-loop)
+    → Ready (c .before .before .loop .t .state)
+    (c .before .before .before .before .before .before .before .before .before .before .args .part .now) (c .before .before .loop .t .at)
+    (c .before .before .loop .space) (c .before .before .loop .t .out)
+ready c = stepping-ready (c .before .before .loop .inv) (c .before .goes .ensures) (c .if1 .taken)
 
 tidied-requires : tie.Need-tidied-requires Inv-loop μ-loop
 tidied-requires c κs = search needs
 
+pass-whole-requires : tie.Need-pass-whole-requires Inv-loop μ-loop
+pass-whole-requires c κs =
+    let a = c .before .before .before .before in
+    (tidied-tidy (a .args .s) (size a) (c .before .tidied .ensures), begins-within _ _)
+
 loop-holds : tie.Need-loop-holds Inv-loop μ-loop
 loop-holds c =
-    let a = c .before .before .before in
-    (tidied-size c, stepping-none _ _ _ _ (tidied-tidy (a .args .s) (size a) (c .tidied .ensures)) refl refl)
+    let p = c .before .before .pass-whole .ensures in
+    stepping-none _ _ _ (p .tidy) (passes-within (p .moves))
 
 goes-requires : tie.Need-goes-requires Inv-loop μ-loop
 goes-requires c κs = search needs
 
 take-turn-requires : tie.Need-take-turn-requires Inv-loop μ-loop
-take-turn-requires c κs =
-    let at-goes = c .before .before .before in
-    let v = at-goes .before .loop .inv in
-    let more = test-goes (v .1) (at-goes .goes .ensures) (c .before .before .if1 .taken) in
-    stepping-ready (v .1) (v .0) (more .0) (more .1)
+take-turn-requires c κs = ready (c .before .before)
+
+pass-whole-requires-2 : tie.Need-pass-whole-requires-2 Inv-loop μ-loop
+pass-whole-requires-2 c κs =
+    let u = c .before .before .before .take-turn .ensures in
+    (u .tidy, passes-within (u .moves))
 
 loop-less : tie.Need-loop-less Inv-loop μ-loop
 loop-less c =
-    let at-turn = c .before .before in
-    let at-goes = at-turn .before .before .before .before in
-    let more = test-goes (at-goes .before .loop .inv .1) (at-goes .goes .ensures) (at-turn .before .before .before .if1 .taken) in
-    turned-less (at-turn .take-turn .ensures) (more .0)
+    let at-pass = c .before .before in
+    let at-turn = at-pass .before .before .before .before in
+    let at-if = at-turn .before .before .before in
+    stepping-less (at-if .before .before .loop .inv) (at-turn .take-turn .ensures) (at-pass .pass-whole2 .ensures) (ready at-if .more)
 
 loop-again : tie.Need-loop-again Inv-loop μ-loop
 loop-again c =
-    let at-turn = c .before .before in
-    let at-goes = at-turn .before .before .before .before in
-    let v = at-goes .before .loop .inv in
-    let more = test-goes (v .1) (at-goes .goes .ensures) (at-turn .before .before .before .if1 .taken) in
-    (v .0, stepping-more (v .1) (v .0) (more .1) (at-turn .take-turn .ensures))
+    let at-pass = c .before .before in
+    let at-turn = at-pass .before .before .before .before in
+    let at-if = at-turn .before .before .before in
+    stepping-more (at-if .before .before .loop .inv) (at-turn .take-turn .ensures) (at-pass .pass-whole2 .ensures)
 
 same-length : tie.Need-same-length Inv-loop μ-loop
-same-length c = stepping-length (c .before .before .before .loop .inv .1)
+same-length c =
+    let at-loop = c .before .before .before in
+    let at-pass = at-loop .before .before .before in
+    stepping-length (at-loop .loop .inv) ∙ moves-length turnOf tellOf width _ (at-pass .pass-whole .ensures .moves)
 
 returns : tie.Need-returns Inv-loop μ-loop
 returns c =
     let at-goes = c .before .before in
-    let at-tidied = at-goes .before .before in
+    let at-pass = at-goes .before .before .before .before in
+    let at-tidied = at-pass .before .before in
     let a = at-tidied .before .before .before in
-    let v = at-goes .before .loop .inv .1 in
-    let none = stepping-stops v (test-stops v (at-goes .goes .ensures) (c .before .if1 .left)) in
-    tidied-step (a .args .s) (size a) (at-tidied .tidied .ensures) (a .args .part .now) (a .args .space .now) (stepping-all v none refl)
+    let v = at-goes .before .loop .inv in
+    tidied-step (a .args .s) (size a) (at-tidied .tidied .ensures) (a .args .part .now) (a .args .space .now)
+    (step-all (step-passed (at-pass .pass-whole .ensures) v) (none-left v (at-goes .goes .ensures) (c .before .if1 .left)))
 
 pub step-spec : {M : Type 1} → statement M
 step-spec =
@@ -73,9 +90,11 @@ step-spec =
     Inv-loop
     μ-loop
     tidied-requires
+    pass-whole-requires
     loop-holds
     goes-requires
     take-turn-requires
+    pass-whole-requires-2
     loop-less
     loop-again
     same-length
