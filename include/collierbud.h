@@ -47,7 +47,7 @@
 extern "C" {
 #endif
 
-/* The numbers. 4 and 9 are of calls that are not exported. */
+/* The numbers. 4, 9 and 10 are of calls that are not exported. */
 enum {
     COLLIERBUD_DONE = 0,           /* nothing is refused */
     COLLIERBUD_BAD_ORDER = 1,      /* the order is above 5 */

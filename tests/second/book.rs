@@ -3,6 +3,7 @@
 
 use crate::forms::{left_aligned, KeySet, Stream};
 use crate::inner::hold;
+use crate::pcmac::absorbed_steps;
 use crate::random::Random;
 use crate::{hex, library, probe};
 
@@ -177,8 +178,7 @@ impl Book {
             &[bytes.in_question(), space_in_question((size, filler))],
             Some(expected),
         );
-        let encoded = if expected == 0 { bytes.bytes() } else { Vec::new() };
-        let characters: String = encoded.iter().map(|byte| format!("{byte:02X}")).collect();
+        let characters = formatted(&if expected == 0 { bytes.bytes() } else { Vec::new() });
         let untouched = vec![filler; size.saturating_sub(characters.len())];
         let space = [characters.as_bytes(), &untouched].concat();
         let written = characters.len() as u64;
@@ -187,6 +187,27 @@ impl Book {
             format!("line {count} is made to write other characters, or to leave other bytes behind them")
         });
         answer[9..].to_vec()
+    }
+
+    /// Answers what the space holds afterwards. The counts are held to the outline's formulas, and the space to the
+    /// one-call tag and the standard library's formatting, so that they do not come from the code that answers.
+    pub fn write(&mut self, keys: &KeySet, body: &Data, (size, filler): Space, expected: u8) -> Vec<u8> {
+        let fields = [keys.to_bytes(), body.in_question(), space_in_question((size, filler))];
+        let answer = self.ask(15, &fields, Some(expected));
+        let (mut counts, mut line) = ([0; 3], String::new());
+        if expected == 0 {
+            let body = body.bytes();
+            let (whole, four) = absorbed_steps(body.len() as u64, keys.order);
+            line = formatted(&frame_of(keys, &body));
+            counts = [whole + 1, four, line.len() as u64];
+        }
+        let untouched = vec![filler; size.saturating_sub(line.len())];
+        let counts = counts.map(u64::to_be_bytes).concat();
+        let count = self.count;
+        hold(answer[1..] == [&counts, line.as_bytes(), &untouched].concat(), || {
+            format!("line {count} is made to write another line, or to leave other bytes behind it")
+        });
+        answer[25..].to_vec()
     }
 
     pub fn judge(&mut self, keys: &KeySet, frame: &Data, expected: Option<u8>) {
@@ -258,7 +279,7 @@ impl Book {
     /// A well-formed stream at a total, by the outline's formulas, with a random chain value and random held bytes. At
     /// a total beyond the limit everything else is right.
     pub fn stream(&mut self, order: u8, total: u64) -> Stream {
-        let (whole, four) = crate::pcmac::absorbed_steps(total, order);
+        let (whole, four) = absorbed_steps(total, order);
         let count = library::held_count(total);
         let held = left_aligned(&self.random.bytes(count as usize));
         let chain = if total > 16 { self.random.block() } else { 0 };
@@ -283,6 +304,11 @@ pub fn tag_of(keys: &KeySet, message: &[u8]) -> Vec<u8> {
 /// A frame: the body, then its tag.
 pub fn frame_of(keys: &KeySet, body: &[u8]) -> Vec<u8> {
     [body, &tag_of(keys, body)].concat()
+}
+
+/// The characters of the bytes, as the standard library formats them.
+pub fn formatted(bytes: &[u8]) -> String {
+    bytes.iter().map(|byte| format!("{byte:02X}")).collect()
 }
 
 /// The same bytes with one bit turned; bit 0 is the highest of the first byte, as in a tag.

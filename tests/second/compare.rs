@@ -43,8 +43,8 @@ struct Tally {
     first: &'static str,
 }
 
-/// The three files are the questions (for check: the input), what the second program says, and what the program said.
-/// Prints the first differences; the last line is `passed failed first`.
+/// The three files are the questions (for check and send: the input), what the second program says, and what the
+/// program said. Prints the first differences; the last line is `passed failed first`.
 pub fn compare(program: &str, files: [&Path; 3]) -> io::Result<()> {
     let [questions, expected, said] = [fs::read(files[0])?, fs::read(files[1])?, fs::read(files[2])?];
     let mut tally = Tally {
@@ -65,7 +65,8 @@ pub fn compare(program: &str, files: [&Path; 3]) -> io::Result<()> {
 
 fn compare_lines(program: &str, file: &Path, [questions, expected, said]: [&[u8]; 3], tally: &mut Tally) {
     let probe = program == "probe";
-    // The first line of an input of check is the key line, which has no answer of its own unless it is refused.
+    // The first line of an input of check or send is the key line. It has no answer of its own; where it is refused,
+    // there is one of check, and none at all of send.
     let skipped = usize::from(!probe && lines(expected).count() + 1 == lines(questions).count());
     let mut asked = lines(questions).skip(skipped);
     let (mut right, mut answers) = (lines(expected), lines(said));
@@ -78,7 +79,13 @@ fn compare_lines(program: &str, file: &Path, [questions, expected, said]: [&[u8]
                 tally.passed += 1;
                 continue;
             }
-            _ if tally.failed == 0 => tally.first = if probe { call(question) } else { "check" },
+            _ if tally.failed == 0 => {
+                tally.first = match program {
+                    "probe" => call(question),
+                    "check" => "check",
+                    _ => "send",
+                }
+            }
             _ => (),
         }
         tally.failed += 1;

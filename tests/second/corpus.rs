@@ -3,14 +3,17 @@
 use crate::book::{Book, Data};
 use crate::inputs::Pair;
 use crate::random::Random;
-use crate::{aes, inputs_fresh, inputs_run, inputs_stored, pcmac, week};
+use crate::{aes, bodies_fresh, bodies_run, bodies_stored, inputs_fresh, inputs_run, inputs_stored, pcmac, week};
 use crate::{questions_encode, questions_frames, questions_keys, questions_lines};
-use crate::{questions_messages, questions_spoilt, questions_streams};
+use crate::{questions_messages, questions_spoilt, questions_streams, questions_writer};
 use std::path::Path;
 use std::{fs, io};
 
 /// The stored corpus is made from this seed.
 const STORED: u64 = 0x5043_2D4D_4143_2D41;
+
+/// The inputs of send are made from another, so that those of check stay as they are.
+const SEND: u64 = 0x5345_4E44_2D52_554E;
 
 pub fn hold_to_documents() {
     aes::hold_to_published_vectors();
@@ -35,8 +38,9 @@ fn book(seed: u64, dense: bool) -> Book {
     questions_spoilt::ask(&mut book);
     questions_frames::ask(&mut book);
     questions_lines::ask(&mut book);
-    // Behind all others, so that the questions before it and the random numbers that they draw stay as they are.
+    // Each behind all before it, so that those questions and the random numbers that they draw stay as they are.
     questions_encode::ask(&mut book);
+    questions_writer::ask(&mut book);
     book
 }
 
@@ -60,15 +64,38 @@ pub fn stored(folder: &Path) -> io::Result<()> {
     let mut random = Random(STORED);
     let run = inputs_run::run(&mut random);
     write_pair(folder, "crates/checker/stdin", "crates/checker/stdout", &run)?;
-    for pair in inputs_stored::all(&mut random) {
-        let name = format!("tests/check/{}", pair.name);
-        write_pair(folder, &format!("{name}.in"), &format!("{name}.out"), &pair)?;
-    }
+    write_inputs(folder, "tests/check", &inputs_stored::all(&mut random))?;
+    let mut random = Random(SEND);
+    let run = bodies_run::run(&mut random);
+    write_pair(folder, "crates/sender/stdin", "crates/sender/stdout", &run)?;
+    write_inputs(folder, "tests/send", &bodies_stored::all(&mut random))?;
     write_pair(folder, "examples/week.txt", "examples/week.out", &week::week())?;
-    write(folder, "bench/line.txt", &week::bench_line().input)
+    for (name, bytes) in week::week_sent() {
+        write(folder, &format!("examples/week.{name}"), &bytes)?;
+    }
+    write(folder, "bench/line.txt", &week::bench_line().input)?;
+    write(folder, "bench/body.txt", &week::bench_body().input)
 }
 
-/// A fresh set: one book of questions for probe, and numbered inputs for check.
+/// Each input and its output under its name.
+fn write_inputs(folder: &Path, place: &str, pairs: &[Pair]) -> io::Result<()> {
+    for pair in pairs {
+        let name = format!("{place}/{}", pair.name);
+        write_pair(folder, &format!("{name}.in"), &format!("{name}.out"), pair)?;
+    }
+    Ok(())
+}
+
+/// Each input and its output under the program's name and a number.
+fn write_numbered(folder: &Path, program: &str, pairs: &[Pair]) -> io::Result<()> {
+    for (i, pair) in pairs.iter().enumerate() {
+        let name = format!("{program}-{i:02}");
+        write_pair(folder, &format!("{name}.in"), &format!("{name}.out"), pair)?;
+    }
+    Ok(())
+}
+
+/// A fresh set: one book of questions for probe, and numbered inputs for check and for send.
 pub fn fresh(seed: u64, folder: &Path) -> io::Result<()> {
     hold_to_documents();
     let mut book = book(seed, true);
@@ -76,8 +103,6 @@ pub fn fresh(seed: u64, folder: &Path) -> io::Result<()> {
     book.questions.truncate(book.questions.len() - (seed % 2) as usize);
     write(folder, "probe.in", &book.questions)?;
     write(folder, "probe.out", &book.answers)?;
-    for (i, pair) in inputs_fresh::all(&mut Random(!seed)).iter().enumerate() {
-        write_pair(folder, &format!("check-{i:02}.in"), &format!("check-{i:02}.out"), pair)?;
-    }
-    Ok(())
+    write_numbered(folder, "check", &inputs_fresh::all(&mut Random(!seed)))?;
+    write_numbered(folder, "send", &bodies_fresh::all(&mut Random(!seed ^ SEND)))
 }

@@ -8,7 +8,7 @@ use crate::questions_keys::OTHERS;
 use crate::random::Random;
 use crate::{check, hex};
 
-/// An input with its name, and what check must print for it.
+/// An input with its name, and what the program, check or send, must print for it.
 pub struct Pair {
     pub name: String,
     pub input: Vec<u8>,

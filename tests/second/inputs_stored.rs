@@ -4,11 +4,16 @@ use crate::book::{frame_of, turned};
 use crate::inputs::{key_line, refused, right_frame, Input, Pair};
 use crate::library::tag_size;
 use crate::random::Random;
+use crate::writer::{write, ROOM};
 
 pub fn all(random: &mut Random) -> Vec<Pair> {
     let mut pairs = key_lines(random);
-    pairs.extend(key_lines_refused(random));
-    pairs.extend(key_lines_with_faults_together(random));
+    let key_lines = [key_lines_refused(random), key_lines_with_faults_together(random)].concat();
+    pairs.extend(
+        key_lines
+            .iter()
+            .map(|(name, text, number)| refused(name, text, *number)),
+    );
     pairs.extend([
         worked_example(),
         empty_lines(random),
@@ -34,6 +39,8 @@ pub fn all(random: &mut Random) -> Vec<Pair> {
         .flatten(),
     );
     pairs.extend([4_096, 8_192, 65_536].map(|step| line_ends_around(random, step)));
+    // Behind all others, so that they and the random numbers that they draw stay as they are.
+    pairs.push(two_lines_for_one_body(random));
     pairs
 }
 
@@ -68,8 +75,11 @@ impl Input {
     }
 }
 
-/// Each with frames behind it, which are not answered.
-fn key_lines_refused(random: &mut Random) -> Vec<Pair> {
+/// A name, an input, and the number that its key line is refused with. The inputs of send have these too.
+pub type Refused = (String, Vec<u8>, u8);
+
+/// Each with lines behind it, which are not answered.
+pub fn key_lines_refused(random: &mut Random) -> Vec<Refused> {
     let right = key_line(random, 2, 0xAA - 0x50);
     let frames = b"\n\n00112233445566778899AABBCCDDEEFF\nab\n";
     let with = |line: &[u8]| [line, frames].concat();
@@ -80,31 +90,34 @@ fn key_lines_refused(random: &mut Random) -> Vec<Pair> {
         with(&line)
     };
     vec![
-        refused("key-line-refused-1", &with(&key_line(random, 6, 64)), 1),
-        refused("key-line-refused-1-order-ff", &with(&key_line(random, 0xFF, 64)), 1),
-        refused("key-line-refused-2", &with(&key_line(random, 5, 129)), 2),
-        refused("key-line-refused-2-length-ff", &with(&key_line(random, 1, 0xFF)), 2),
-        refused("key-line-refused-8-empty", frames, 8),
-        refused("key-line-refused-8-of-66", &lines_of(66), 8),
-        refused("key-line-refused-8-of-67", &lines_of(67), 8),
-        refused("key-line-refused-8-of-69", &lines_of(69), 8),
-        refused("key-line-refused-8-of-70", &lines_of(70), 8),
-        refused("key-line-refused-8-of-5000", &lines_of(5_000), 8),
-        refused("key-line-refused-8-cr-lf", &[&right[..], b"\r\n0011\r\n"].concat(), 8),
-        refused("key-line-refused-8-without-line-feed", &right[..67], 8),
-        refused("key-line-refused-9", &replaced(67, b'G'), 9),
-        refused("key-line-refused-9-first", &replaced(0, b'/'), 9),
-        refused("key-line-refused-9-space", &replaced(30, b' '), 9),
-        refused("key-line-refused-9-nul", &replaced(31, 0), 9),
-        refused("key-line-refused-9-byte-80", &replaced(32, 0x80), 9),
-        refused("key-line-refused-9-last-is-cr", &replaced(67, b'\r'), 9),
-        refused("key-line-refused-9-lower-case", &with(&right.to_ascii_lowercase()), 9),
+        ("key-line-refused-1", with(&key_line(random, 6, 64)), 1),
+        ("key-line-refused-1-order-ff", with(&key_line(random, 0xFF, 64)), 1),
+        ("key-line-refused-2", with(&key_line(random, 5, 129)), 2),
+        ("key-line-refused-2-length-ff", with(&key_line(random, 1, 0xFF)), 2),
+        ("key-line-refused-8-empty", frames.to_vec(), 8),
+        ("key-line-refused-8-of-66", lines_of(66), 8),
+        ("key-line-refused-8-of-67", lines_of(67), 8),
+        ("key-line-refused-8-of-69", lines_of(69), 8),
+        ("key-line-refused-8-of-70", lines_of(70), 8),
+        ("key-line-refused-8-of-5000", lines_of(5_000), 8),
+        ("key-line-refused-8-cr-lf", [&right[..], b"\r\n0011\r\n"].concat(), 8),
+        ("key-line-refused-8-without-line-feed", right[..67].to_vec(), 8),
+        ("key-line-refused-9", replaced(67, b'G'), 9),
+        ("key-line-refused-9-first", replaced(0, b'/'), 9),
+        ("key-line-refused-9-space", replaced(30, b' '), 9),
+        ("key-line-refused-9-nul", replaced(31, 0), 9),
+        ("key-line-refused-9-byte-80", replaced(32, 0x80), 9),
+        ("key-line-refused-9-last-is-cr", replaced(67, b'\r'), 9),
+        ("key-line-refused-9-lower-case", with(&right.to_ascii_lowercase()), 9),
     ]
+    .into_iter()
+    .map(|(name, text, number)| (name.to_string(), text, number))
+    .collect()
 }
 
 /// 8 before 9, and 1 and 2 only after both.
-fn key_lines_with_faults_together(random: &mut Random) -> Vec<Pair> {
-    let mut pairs = Vec::new();
+pub fn key_lines_with_faults_together(random: &mut Random) -> Vec<Refused> {
+    let mut inputs = Vec::new();
     for (set, name) in (0..16).zip(["", "8", "9", "8-9", "1", "8-1", "9-1", "8-9-1"].iter().cycle()) {
         let has = |fault: u32| set >> fault & 1 == 1;
         let faults = if has(3) { format!("{name}-2") } else { name.to_string() };
@@ -120,13 +133,13 @@ fn key_lines_with_faults_together(random: &mut Random) -> Vec<Pair> {
             line.extend_from_slice(b"00");
         }
         let first = faults.as_bytes()[0] - b'0';
-        pairs.push(refused(
-            &format!("key-line-faults-{faults}"),
-            &[&line[..], b"\n00\n"].concat(),
+        inputs.push((
+            format!("key-line-faults-{faults}"),
+            [&line[..], b"\n00\n"].concat(),
             first,
         ));
     }
-    pairs
+    inputs
 }
 
 /// The outline's five lines and four answers.
@@ -289,4 +302,22 @@ fn line_ends_around(random: &mut Random, step: usize) -> Pair {
         input.up_to(random, step * k + shift - 3);
     }
     input.named(&format!("line-ends-around-{step}"))
+}
+
+/// Two lines and more are accepted for one body where the tag has spare bits: the line that the writer gives, then the
+/// same with all four spare bits set, and with each of them. Only the stated bits are looked at. So an accepted line is
+/// the one that the writer gives for its body as long as the tag length is a multiple of 8, and 60 is none.
+fn two_lines_for_one_body(random: &mut Random) -> Pair {
+    let mut input = Input::new(random, 2, 60);
+    let mut space = [0; ROOM];
+    let (_, characters) = write(&input.keys, b"one body", &mut space);
+    input.line(&space[..characters as usize], Some(0));
+    let frame = frame_of(&input.keys, b"one body");
+    let first = 8 * frame.len() - 4;
+    let all = (first..first + 4).fold(frame.clone(), |frame, bit| turned(&frame, bit));
+    input.frame(&all, Some(0));
+    for bit in first..first + 4 {
+        input.frame(&turned(&frame, bit), Some(0));
+    }
+    input.named("two-lines-one-body-length-60")
 }

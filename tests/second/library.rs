@@ -26,14 +26,14 @@ pub struct Verdict {
     pub four: u64,
 }
 
-fn first_refusal(judged: &[(u8, bool)]) -> u8 {
+pub fn first_refusal(judged: &[(u8, bool)]) -> u8 {
     judged
         .iter()
         .find(|(_, applies)| *applies)
         .map_or(0, |(number, _)| *number)
 }
 
-fn refused(number: u8) -> Verdict {
+pub fn refused(number: u8) -> Verdict {
     Verdict {
         number,
         whole: 0,
@@ -41,7 +41,7 @@ fn refused(number: u8) -> Verdict {
     }
 }
 
-fn done(walk: Walk) -> Verdict {
+pub fn done(walk: Walk) -> Verdict {
     Verdict {
         number: 0,
         whole: walk.whole,
@@ -50,11 +50,11 @@ fn done(walk: Walk) -> Verdict {
 }
 
 /// In a key set 0 is refused in either field.
-fn wrong_order(keys: &KeySet) -> bool {
+pub fn wrong_order(keys: &KeySet) -> bool {
     !(1..=5).contains(&keys.order)
 }
 
-fn wrong_length(keys: &KeySet) -> bool {
+pub fn wrong_length(keys: &KeySet) -> bool {
     !(1..=128).contains(&keys.length)
 }
 

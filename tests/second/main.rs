@@ -1,7 +1,11 @@
-//! The second program: PC-MAC-AES, the library's calls and its two programs, written a second time from the documents
+//! The second program: PC-MAC-AES, the library's calls and its programs, written a second time from the documents
 //! alone, to question the library with.
 
 mod aes;
+mod bodies;
+mod bodies_fresh;
+mod bodies_run;
+mod bodies_stored;
 mod book;
 mod check;
 mod compare;
@@ -25,18 +29,21 @@ mod questions_lines;
 mod questions_messages;
 mod questions_spoilt;
 mod questions_streams;
+mod questions_writer;
 mod random;
+mod send;
 mod week;
+mod writer;
 
 use std::io::{self, Read, Write};
 use std::path::Path;
 use std::process::ExitCode;
 
 const USAGE: &str = "usage:
-    second answer probe|check        what probe or check must write for standard input
+    second answer probe|check|send   what probe, check or send must write for standard input
     second corpus DIR                the stored corpus, in the folders of the repository
     second fresh SEED DIR            a fresh set of questions and inputs, with their answers
-    second compare probe|check QUESTIONS ANSWERS SAID
+    second compare probe|check|send QUESTIONS ANSWERS SAID
                                      answers of the second program against those of a program
     second fault FILE DIR            puts a stored fault into a copy of the sources";
 
@@ -50,12 +57,13 @@ fn run(words: &[&str]) -> io::Result<()> {
     match words {
         ["answer", "probe"] => answer(probe::answer_all),
         ["answer", "check"] => answer(check::answer_all),
+        ["answer", "send"] => answer(send::answer_all),
         ["corpus", folder] => corpus::stored(Path::new(folder)),
         ["fresh", seed, folder] => match seed.parse() {
             Ok(seed) => corpus::fresh(seed, Path::new(folder)),
             Err(_) => Err(io::Error::other("the seed is a number below 2^64")),
         },
-        ["compare", program @ ("probe" | "check"), questions, answers, said] => {
+        ["compare", program @ ("probe" | "check" | "send"), questions, answers, said] => {
             compare::compare(program, [questions, answers, said].map(Path::new))
         }
         ["fault", file, folder] => fault::put(Path::new(file), Path::new(folder)),

@@ -1,7 +1,7 @@
 //! The language of the program `probe`: one call a line, each answered by a line.
 
 use crate::forms::{KeySet, Stream, KEY_SET_BYTES, STREAM_BYTES};
-use crate::{hex, library};
+use crate::{hex, library, writer};
 
 /// The limits of a line in characters, of the first and the second bytes field, and of a space.
 pub const LINE: usize = 16_384;
@@ -10,7 +10,7 @@ pub const SECOND: usize = 4_096;
 pub const SPACE: usize = 1_024;
 
 /// The calls by their numbers; there is no call 0.
-pub const CALLS: [&str; 15] = [
+pub const CALLS: [&str; 16] = [
     "no call",
     "keys::key_call",
     "keyline::read",
@@ -26,6 +26,7 @@ pub const CALLS: [&str; 15] = [
     "frame::open_or",
     "bridge::open_or_keep",
     "hex::encode",
+    "writer::write",
 ];
 
 /// The lines of an input: each ends with a line feed, which the last may lack.
@@ -121,6 +122,7 @@ fn answer_bytes(question: &[u8]) -> Option<Vec<u8>> {
         9 => answer_line(library::decode, &mut rest),
         call @ 10..=13 => answer_frame(call, &mut rest),
         14 => answer_line(library::encode, &mut rest),
+        15 => answer_writer(&mut rest),
         _ => None,
     }
 }
@@ -203,4 +205,11 @@ fn answer_frame(call: u8, rest: &mut Rest) -> Option<Vec<u8>> {
         library::open_or(&keys, &frame, &table)
     };
     Some([(handed.len() as u64).to_be_bytes().to_vec(), handed.to_vec()].concat())
+}
+
+fn answer_writer(rest: &mut Rest) -> Option<Vec<u8>> {
+    let (keys, body, mut space) = (rest.keys()?, rest.bytes(FIRST)?, rest.space()?);
+    rest.end()?;
+    let (verdict, characters) = writer::write(&keys, &body, &mut space);
+    Some([counts(verdict), characters.to_be_bytes().to_vec(), space].concat())
 }

@@ -135,7 +135,8 @@ fn nonsense(book: &mut Book) {
     }
 }
 
-/// A question of each call is spoilt; that of encoding stands behind all others, with the rest of its questions.
+/// A question of each call is spoilt; those of encoding and of the writer stand behind all others, with the rest of
+/// their questions.
 fn cut_short(book: &mut Book) {
     let keys = book.keys(2, 64);
     let (set, stream) = (keys.to_bytes(), book.stream(2, 20).to_bytes());

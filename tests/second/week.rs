@@ -1,8 +1,10 @@
-//! A week of tariff tables, and the line of the benchmark.
+//! A week of tariff tables, and the lines of the benchmark.
 
+use crate::bodies::Bodies;
 use crate::book::{frame_of, turned};
-use crate::hex;
+use crate::inner::hold;
 use crate::inputs::{Input, Pair};
+use crate::{check, hex};
 
 const BODIES: [&str; 7] = [
     "MON Gibraltar 0450, Ceuta 0520, Tangier 0610",
@@ -33,11 +35,46 @@ pub fn week() -> Pair {
     input.named("week")
 }
 
+/// The same week as shore sends it, as files by the ends of their names: the key line, the bodies, the frames that send
+/// writes for these, and what check says to them. Nothing is damaged here.
+pub fn week_sent() -> [(&'static str, Vec<u8>); 4] {
+    let key = key_line(2, 64, 0x10, 0xA0) + "\n";
+    let mut input = Bodies::with_key_line(key.trim_end().as_bytes());
+    for body in BODIES {
+        input.body(body.as_bytes());
+    }
+    let Pair { input, output, .. } = input.named("week sent");
+    let bodies = input[key.len()..].to_vec();
+    let verdicts = check::answer_all(&[key.as_bytes(), output.as_bytes()].concat());
+    [
+        ("key", key.into_bytes()),
+        ("bodies", bodies),
+        ("frames", output.into_bytes()),
+        ("verdicts", verdicts.into_bytes()),
+    ]
+}
+
+const BENCH_BODY: (usize, u8, u8) = (100, 3, 7);
+
 /// One frame of 100 body bytes under order 2 and tags of 128 bits.
 pub fn bench_line() -> Pair {
     let mut input = Input::with_key_line(key_line(2, 128, 0x00, 0x10).as_bytes());
-    let body = crate::probe::pattern(100, 3, 7);
-    let frame = frame_of(&input.keys, &body);
+    let (count, first, step) = BENCH_BODY;
+    let frame = frame_of(&input.keys, &crate::probe::pattern(count, first, step));
     input.frame(&frame, Some(0));
     input.named("bench line")
+}
+
+/// The body of that frame under the same key line, for which send writes the line.
+pub fn bench_body() -> Pair {
+    let key = key_line(2, 128, 0x00, 0x10);
+    let mut input = Bodies::with_key_line(key.as_bytes());
+    let (count, first, step) = BENCH_BODY;
+    input.body(&crate::probe::pattern(count, first, step));
+    let pair = input.named("bench body");
+    hold(
+        [&key, "\n", &pair.output].concat().into_bytes() == bench_line().input,
+        || "send writes the line of the benchmark".into(),
+    );
+    pair
 }

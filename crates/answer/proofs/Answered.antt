@@ -2,15 +2,14 @@
 -- Assumes nothing.
 use mathlib.Core.Path.{_≡_, ap, sym, _∙_}
 use mathlib.Core.List.{List}
-use Prim.Native.Nat.{ℕ, _≤_}
-use native.Mathlib.Omega.{arith}
+use Prim.Native.Nat.{ℕ}
 use lib.ListN.{length, take}
 use borrow.Author.Tests.{eq-eqb, ne-eqb}
 use Rattle.keys.specs.declared.KeySet.{KeySet}
 use Rattle.hex.specs.declared.LineAnswer.{LineAnswer}
 use Rattle.hex.specs.Answer.{decodeNumber}
 use Rattle.hex.specs.Promise.{DecodePromise}
-use Rattle.hex.proofs.Told.{number-is, is-written, written-most, after-length}
+use Rattle.hex.proofs.Told.{is-written, least-number}
 use Rattle.frame.specs.declared.FrameAnswer.{FrameAnswer}
 use Rattle.frame.specs.Frame.{refusedFrame, frameAnswer}
 use Rattle.answer.specs.Line.{lineAnswer}
@@ -29,18 +28,10 @@ module _
     (size : length space ≡ 255)
     (p : DecodePromise line space d after)
   where
-    -- its number is that of the line
-    number : decodeNumber 255 line ≡ d .number
-    number = ap (λ (n : ℕ). decodeNumber n line) (sym size) ∙ sym (number-is line space p)
-
-    -- what was written lies within the space
-    pub written-within : d .written ≤ length after
-    written-within = omega (arith, written-most line space p, after-length line space p)
-
     pub line-refused : {r : FrameAnswer} → (d .number ≡ 0 → ⊥) → r ≡ refusedFrame (d .number) → r ≡ lineAnswer k line
-    line-refused h e = e ∙ answer-refused k line (sym number) h
+    line-refused h e = e ∙ answer-refused k line (sym (least-number line space size p)) h
 
     pub line-judged : {r : FrameAnswer} → d .number ≡ 0 → r ≡ frameAnswer k (take (d .written) after) → r ≡ lineAnswer k line
     unfolding lineAnswer
     line-judged z e =
-        rw (number, eq-eqb (d .number) 0 z) (e ∙ ap (frameAnswer k) (is-written line space p z .front))
+        rw (least-number line space size p, eq-eqb (d .number) 0 z) (e ∙ ap (frameAnswer k) (is-written line space p z .front))

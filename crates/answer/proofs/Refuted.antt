@@ -13,12 +13,13 @@ use Rattle.laws.specs.BigEndian.{bigEndian}
 use Rattle.hex.specs.Line.{isHex, encoded}
 use Rattle.hex.proofs.Outcome.{number-rest}
 use Rattle.lines.specs.Lines.{lineFeed}
+use Rattle.lines.proofs.Telling.{tells-text, tells-nothing}
 use Rattle.frame.specs.declared.FrameAnswer.{FrameAnswer}
 use Rattle.frame.specs.Frame.{refusedFrame}
 use Rattle.answer.specs.Text.{answerBytes, textOf}
 use Rattle.answer.specs.Promise.{OfLinePromise, TellPromise, tell-once}
 use Rattle.answer.proofs.Answered.{answer-refused}
-use Rattle.answer.proofs.Spelt.{text-length, text-feed, tells-text, tells-nothing}
+use Rattle.answer.proofs.Spelt.{text-length, text-feed}
 
 -- a fault of the frame, which is 8, judged before that of its line
 pub frame-before-line : (k : KeySet) (line : List ℕ) (r : FrameAnswer) → length line ≤ 510 → isHex line ≡ false
@@ -35,7 +36,7 @@ sample = record { number = 0; whole = 1; four = 0; body = 10 }
 
 sample-told : (space : List ℕ) {r : ℕ} {after : List ℕ} (i : ℕ) → 21 ≤ length space → TellPromise sample space r after
     → getD after i 0 ≡ getD (textOf sample ++ drop (length (textOf sample)) space) i 0
-sample-told space i h p = ap (λ (l : List ℕ). getD l i 0) (tells-text sample space h p .1)
+sample-told space i h p = ap (λ (l : List ℕ). getD l i 0) (tells-text 21 (textOf sample) space h p .1)
 
 -- a letter in lower case: the last digit of its body's length
 pub lower-case-written : (space : List ℕ) (r : ℕ) (after : List ℕ) → 21 ≤ length space → TellPromise sample space r after
@@ -53,7 +54,7 @@ text-one-late space r after h p z = let n : getD after 10 0 ≡ 48 = sample-told
 pub line-feed-lost : (a : FrameAnswer) (space : List ℕ) (r : ℕ) (after : List ℕ) → 21 ≤ length space → TellPromise a space r after
     → (getD after 20 0 ≡ lineFeed → ⊥) → ⊥
 line-feed-lost a space r after h p w =
-    let t = tells-text a space h p .1 in
+    let t = tells-text 21 (textOf a) space h p .1 in
     let n : 20 < length (textOf a) = omega (arith, text-length a) in
     w (ap (λ (l : List ℕ). getD l 20 0) t ∙ getD-front (textOf a) (drop (length (textOf a)) space) 20 n ∙ text-feed a)
   where
@@ -64,4 +65,4 @@ line-feed-lost a space r after h p w =
 pub text-cut : (a : FrameAnswer) (space : List ℕ) (r : ℕ) (after : List ℕ) → length space < 21 → TellPromise a space r after
     → 1 ≤ r → ⊥
 text-cut a space r after h p k =
-    omega (arith, tell-once a space r 0 after space p (tells-nothing a space h) .0)
+    omega (arith, tell-once a space r 0 after space p (tells-nothing 21 (textOf a) space h) .0)

@@ -2,9 +2,7 @@
 -- Assumes nothing.
 use mathlib.Core.List.{List, [], _∷_, _++_}
 use Prim.Native.Nat.{ℕ}
-use lib.Dec.{leb}
 use Rattle.laws.specs.BigEndian.{bigEndian}
-use Rattle.laws.specs.Pick.{pick}
 use Rattle.hex.specs.Line.{encoded}
 use Rattle.lines.specs.Lines.{lineFeed}
 use Rattle.frame.specs.declared.FrameAnswer.{FrameAnswer}
@@ -21,7 +19,3 @@ answerBytes a = bigEndian 1 (a .number) ++ bigEndian 4 (a .whole) ++ bigEndian 4
 -- length, then a line feed
 unfoldable pub textOf : FrameAnswer → List ℕ
 textOf a = encoded (answerBytes a) ++ (lineFeed ∷ [])
-
--- what is told in a space of so many bytes: the text, or nothing where there is no room for it
-unfoldable pub toldIn : ℕ → FrameAnswer → List ℕ
-toldIn space a = pick (leb textLength space) (textOf a) []

@@ -2,12 +2,12 @@
 -- Assumes nothing.
 use mathlib.Core.Path.{_≡_, refl, ap, sym, _∙_}
 use mathlib.Core.Logic.{⊎-elim}
-use mathlib.Core.List.{List, [], _∷_, _++_, append-nil, append-assoc}
-use Prim.Native.Nat.{ℕ, zero, suc, _+_, _-_, _*_, _≤_, _<_}
+use mathlib.Core.List.{List, [], _∷_, _++_, append-nil}
+use Prim.Native.Nat.{ℕ, zero, suc, _-_, _*_, _≤_, _<_}
 use native.Mathlib.Nat.{eq-or-lt-of-le}
 use native.Mathlib.Omega.{arith}
-use lib.ListN.{length, take, replicate, length-append, length-replicate}
-use lib.Seq.{take-all, length-take-le}
+use lib.ListN.{length, take, set, replicate, length-append, length-replicate}
+use lib.Seq.{take-all, length-take-le, set-at}
 use borrow.Author.Tests.{eq-eqb, ne-eqb}
 use Rattle.laws.proofs.Bytes.{Bytes, bytes-take}
 use Rattle.block.specs.Bits.{binary, bits, value, bytes}
@@ -80,11 +80,11 @@ padded-length m h =
 pub pad-full : (x : List ℕ) (n : ℕ) → length x ≡ 16 → Bytes x → 16 ≤ n → x ≡ padded (take n x)
 pad-full x n h b l = let e : take n x ≡ x = take-all n x (omega arith) in rw e (sym (padded-full x h b))
 
--- of fewer, they with 80 behind them, filled with zeros
-pub pad-short : (x : List ℕ) (n : ℕ) → length x ≡ 16 → Bytes x → n < 16 → sixteen (take n x ++ (0x80 ∷ [])) ≡ padded (take n x)
+-- of fewer, they and zeros, with 80 laid behind them
+pub pad-short : (x : List ℕ) (n : ℕ) → length x ≡ 16 → Bytes x → n < 16 → set (sixteen (take n x)) n 0x80 ≡ padded (take n x)
 pad-short x n h b l =
     let m : length (take n x) ≡ n = length-take-le n x (omega arith) in
-    let k : length (take n x ++ (0x80 ∷ [])) ≡ n + 1 = length-append (take n x) (0x80 ∷ []) ∙ omega arith in
-    let e : 16 - length (take n x ++ (0x80 ∷ [])) ≡ 15 - length (take n x) = omega arith in
-    sixteen-short (take n x ++ (0x80 ∷ [])) (omega arith) ∙ rw (e, append-assoc)
-    (sym (padded-short (take n x) (omega arith) (bytes-take n x b)))
+    let e : 16 - length (take n x) ≡ suc (15 - length (take n x)) = omega arith in
+    ap (λ (y : List ℕ). set y n 0x80) (sixteen-short (take n x) (omega arith) ∙ ap (λ (k : ℕ). take n x ++ replicate k 0) e)
+    ∙ set-at (take n x) 0 (replicate (15 - length (take n x)) 0) 0x80 n m
+    ∙ sym (padded-short (take n x) (omega arith) (bytes-take n x b))

@@ -1,20 +1,20 @@
 -- Wrong outcomes that the promises do not permit, for every input that tells them apart, or at one.
 -- Assumes nothing.
 use mathlib.Core.Path.{_≡_, sym, ap, _∙_}
-use mathlib.Core.List.{List, [], _∷_, _++_}
-use Prim.Native.Nat.{ℕ, _-_, _≤_, _<_}
+use mathlib.Core.List.{List, _∷_, _++_}
+use Prim.Native.Nat.{ℕ, _≤_, _<_}
 use native.Mathlib.Nat.{add-zero}
 use native.Mathlib.Omega.{arith}
 use lib.Bits.{xor-self}
 use lib.ListN.{length, getD, take, drop, replicate}
-use lib.Seq.{getD-drop}
+use lib.Seq.{getD-drop, getD-set-same}
 use Rattle.laws.proofs.Bytes.{Bytes}
 use Rattle.block.specs.Bits.{binary, bits, value, bytes}
-use Rattle.block.specs.Block.{Block, _⊕_, shifted, msb, mul2}
+use Rattle.block.specs.Block.{Block, _⊕_, shifted, msb, mul2, sixteen}
 use Rattle.block.specs.Promise.{XorPromise, NumberedPromise, DoublePromise, ReadPromise, JoinPromise, PadPromise}
 use Rattle.block.proofs.Block.{numbered-byte}
 use Rattle.block.proofs.Padding.{pad-short}
-use Rattle.block.proofs.Sixteen.{sixteen-at, joined-front, joined-behind}
+use Rattle.block.proofs.Sixteen.{sixteen-length, sixteen-at, joined-front}
 
 -- the byte at place j of a block
 abbrev at : ℕ → Block → ℕ
@@ -63,10 +63,7 @@ block-byte-of-the-end x n part r whole some differ h p =
 pub padded-with-a-low-one : (x : Block) (n : ℕ) (r : Block) → length x ≡ 16 → Bytes x → n < 16 → getD r n 0 ≡ 0x01
     → PadPromise x n r → ⊥
 padded-with-a-low-one x n r whole b short h p =
-    let e : n - n ≡ 0 = omega arith in
+    let l : length (sixteen (take n x)) ≡ 16 = sixteen-length (take n x) in
     let z : getD r n 0 ≡ 0x80 =
-    ap (at n) (p ∙ sym (pad-short x n whole b short))
-    ∙ sixteen-at (take n x ++ (0x80 ∷ [])) n short
-    ∙ joined-behind x (0x80 ∷ []) n n (omega arith) (omega arith)
-    ∙ ap (λ (j : ℕ). getD (0x80 ∷ []) j 0) e in
+    ap (at n) (p ∙ sym (pad-short x n whole b short)) ∙ getD-set-same (sixteen (take n x)) n 0x80 0 (omega arith) in
     omega arith

@@ -87,16 +87,6 @@ pub fn join(x: [u8; 16], n: usize, part: &[u8]) -> [u8; 16]
     r
 }
 
-// pad of the first n bytes of a block: a full block stays, a shorter one gets 80 and then zeros.
-pub fn pad(x: [u8; 16], n: usize) -> [u8; 16]
-    ensures { λ r. ⌜ PadPromise x n r ⌝ }
-{
-    if n >= 16 {
-        return x;
-    }
-    join(x, n, &[0x80u8])
-}
-
 // Sixteen bytes of a slice, from `at` on, and zeros where it has ended.
 pub fn read(bytes: &[u8], at: usize) -> [u8; 16]
     ensures { λ r. ⌜ ReadPromise (now (bytes .entry)) at r ⌝ }
@@ -114,5 +104,17 @@ pub fn read(bytes: &[u8], at: usize) -> [u8; 16]
         r[i] = bytes[at + i];
         i += 1;
     }
+    r
+}
+
+// pad of the first n bytes of a block: a full block stays, a shorter one gets 80 and then zeros.
+pub fn pad(x: [u8; 16], n: usize) -> [u8; 16]
+    ensures { λ r. ⌜ PadPromise x n r ⌝ }
+{
+    if n >= 16 {
+        return x;
+    }
+    let mut r = read(&x[..n], 0);
+    r[n] = 0x80;
     r
 }

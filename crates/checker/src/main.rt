@@ -2,5 +2,5 @@
 // input makes and tells is proved in the crate `session`, what surrounds that in `program`; what is read
 // and written is tested.
 fn main() {
-    program::run(b"check", u64::MAX);
+    program::run(session::CHECK, b"check", u64::MAX);
 }

@@ -29,11 +29,15 @@ use Rattle.hex.proofs.Told.{unwritten}
 use Rattle.keyline.specs.KeyLine.{keyLineAnswer}
 use Rattle.frame.specs.Frame.{frameAnswer}
 use Rattle.lines.specs.Reader.{closing}
+use Rattle.lines.specs.Tell.{toldIn, TellsIn}
 use Rattle.answer.specs.Line.{lineAnswer}
-use Rattle.answer.specs.Text.{toldIn}
+use Rattle.answer.specs.Text.{textLength, textOf}
+use Rattle.writer.specs.Line.{writeAnswer, writeSpace}
+use Rattle.writer.proofs.Told.{is-refused}
+use Rattle.outgoing.specs.Text.{mostText, sentText}
 use Rattle.session.specs.declared.State.{State}
 use Rattle.session.specs.declared.Stepped.{Stepped}
-use Rattle.session.specs.Session.{begun, readerOf, stateOf, over}
+use Rattle.session.specs.Session.{width, begun, readerOf, stateOf, over}
 use Rattle.session.specs.Promise.{takenOf, saidOver, stepAnswer, StepPromise}
 use Rattle.demands.specs.One.{Answers, Refusals, RefusalsOfLinesAndFrames, Demand1}
 use Rattle.demands.proofs.Cutting.{added-none}
@@ -61,6 +65,12 @@ stepped s part space =
 wrote : (space : List ℕ) (n : ℕ) (x : List ℕ) → (r : LineAnswer) × (after : List ℕ) × Writes n x space r after
 wrote space n x = (writtenAnswer n x, writtenSpace space n x, (refl, refl))
 
+-- what one that tells a text in a space does
+told : (most : ℕ) (text space : List ℕ) → (r : ℕ) × (after : List ℕ) × TellsIn most text space r after
+told most text space =
+    let said = toldIn most (length space) text in
+    (length said, said ++ drop (length said) space, (refl, refl))
+
 answers : Answers
 answers = record {
   makes-keys = λ order bits K L. (keyAnswer order bits K L, refl);
@@ -78,11 +88,11 @@ answers = record {
   opens-or = of-frames.opens-or;
   opens-or-keeps = of-frames.opens-or;
   judges-line = λ k line. (lineAnswer k line, refl);
-  tells =
-      λ a space.
-      let text = toldIn (length space) a in
-      (length text, text ++ drop (length text) space, (refl, refl));
-  begins = (stateOf (record { session = begun; line = [] }), refl);
+  writes = λ k body space. (writeAnswer k body (length space), writeSpace k body space, (refl, refl));
+  tells = λ a space. told textLength (textOf a) space;
+  sends = λ k line space. told mostText (sentText k line) space;
+  has-width = λ kind. (width kind, refl);
+  begins = λ kind. (stateOf kind (record { session = begun; line = [] }), refl);
   steps = λ s part space. stepped s part space;
   finishes = λ s space. stepped s (closing (readerOf s)) space;
   is-over = λ s. (over s, refl);
@@ -102,6 +112,7 @@ refusals-of-lines-and-frames : RefusalsOfLinesAndFrames
 refusals-of-lines-and-frames = record {
   decode-refused = λ line space after r e h. unwritten _ _ space e h;
   encode-refused = λ bytes space after r e h. unwritten _ _ space e h;
+  write-refused = λ k body space after w e h. is-refused k body space e h;
   key-line-refused = of-lines.key-line-refused;
   judge-refused = of-frames.judge-refused;
   frame-line-refused = of-frames.frame-line-refused;

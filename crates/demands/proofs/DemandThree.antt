@@ -2,7 +2,7 @@
 -- Assumes nothing.
 use mathlib.Core.Path.{_≡_, refl, ap, sym, _∙_}
 use mathlib.Core.Logic.{⊎-elim}
-use mathlib.Core.List.{List}
+use mathlib.Core.List.{List, _++_}
 use Prim.Native.Nat.{ℕ, _+_, _≤_}
 use native.Mathlib.Nat.{zero-add}
 use native.Mathlib.Omega.{arith}
@@ -12,6 +12,7 @@ use Rattle.laws.specs.Joined.{joined}
 use Rattle.laws.specs.Up.{up}
 use Rattle.laws.specs.UpTo.{upTo}
 use Rattle.laws.proofs.Fault.{unless-most, fault-most, none-most}
+use Rattle.block.specs.Bits.{bytes}
 use Rattle.block.specs.Block.{blocks}
 use Rattle.chain.specs.Stream.{settled}
 use Rattle.chain.proofs.Count.{bounded, closed}
@@ -25,7 +26,7 @@ use Rattle.tag.specs.declared.TagAnswer.{TagAnswer}
 use Rattle.tag.specs.Answer.{madeTag, checkedTag}
 use Rattle.tag.specs.Fault.{sizeNumber}
 use Rattle.tag.specs.Tag.{tagBytes}
-use Rattle.tag.proofs.Answered.{making-is, making-number, checking-is, making-same, slice-same, checking-same}
+use Rattle.tag.proofs.Answered.{making-is, slice-is, making-number, checking-is, making-same, slice-same, checking-same}
 use Rattle.judge.specs.declared.Stream.{Stream}
 use Rattle.judge.specs.Stream.{started, formed, heldOf, viewOf, streamOf}
 use Rattle.judge.specs.Fault.{streamNumber, emptyNumber}
@@ -33,15 +34,21 @@ use Rattle.judge.proofs.Total.{total}
 use Rattle.stream.specs.declared.Added.{Added}
 use Rattle.stream.specs.Answer.{closed as closed-stream}
 use Rattle.stream.specs.Answer.{addNumber, addedTo, closeNumber}
-use Rattle.stream.specs.Promise.{StartPromise, AddPromise, CheckPromise}
+use Rattle.stream.specs.Promise.{StartPromise, AddPromise, ClosePromise, CheckPromise}
 use Rattle.stream.proofs.Number.{Adds, adds, adds-none}
 use Rattle.stream.proofs.Adding.{added-total}
 use Rattle.judge.proofs.Held.{Fine}
-use Rattle.message.specs.Answer.{verdict}
-use Rattle.message.specs.Promise.{VerifyPromise}
+use Rattle.message.specs.Answer.{messageNumber, tagged, tagAnswer, tagSlice, verdict}
+use Rattle.message.specs.Promise.{TagPromise, VerifyPromise}
+use Rattle.message.proofs.Number.{tags-none}
+use Rattle.hex.specs.Line.{encoded}
 use Rattle.frame.specs.declared.FrameAnswer.{FrameAnswer}
 use Rattle.frame.specs.Promise.{JudgePromise}
-use Rattle.session.proofs.Cutting.{in-parts}
+use Rattle.writer.specs.declared.Written.{Written}
+use Rattle.writer.specs.Line.{frameOf, doneWrite}
+use Rattle.writer.specs.Promise.{WritePromise}
+use Rattle.writer.proofs.Told.{is-written}
+use Rattle.session.proofs.Cutting.{check-in-parts, send-in-parts}
 use Rattle.demands.specs.Numbers.{Verdict}
 use Rattle.demands.specs.Terms.{Made, Frame, bodyEnd, AddedAll}
 use Rattle.demands.specs.Three.{Demand3}
@@ -164,14 +171,43 @@ judged-parts k f ps s t r r′ h q e all j c =
     let is = checked-parts k ps s t (drop n f) r′ (verdict k (joined ps) (drop n f)) fits e all c refl in
     judged-verified k f h r r′ j (is ∙ ap (λ (M : List ℕ). verdict k M (drop n f)) q)
 
+-- start, any parts, and then closing: the outcome of the one call on the message that they make
+closed-parts : (k : KeySet) (ps : List (List ℕ)) (s t : Stream) (l after after′ : List ℕ) (r r′ : TagAnswer)
+    → length (joined ps) ≤ 1048576 → StartPromise s → AddedAll k s ps t → ClosePromise k t l r after → TagPromise k (joined ps) l r′ after′
+    → (r ≡ r′) × (after ≡ after′)
+closed-parts k ps s t l after after′ r r′ fits e all c w =
+    let a = parts-alike k ps s t (length l) e fits all in
+    (c .0 ∙ making-same (a .number) (a .tag) ∙ sym (w .0), c .1 ∙ slice-same (a .number) (a .tag) l ∙ sym (w .1))
+
+-- and where they are a body, the tag and the counts of its line
+written-parts : (k : KeySet) (body space after slice tag : List ℕ) (ps : List (List ℕ)) (s t : Stream) (w : Written) (r : TagAnswer)
+    → joined ps ≡ body → StartPromise s → AddedAll k s ps t → length slice ≡ tagBytes (k .bits) → ClosePromise k t slice r tag
+    → WritePromise k body space w after → w .number ≡ 0
+    → (r .number ≡ 0) × (take (w .written) after ≡ encoded (body ++ tag)) × (w .whole ≡ r .whole) × (w .four ≡ r .four)
+unfolding doneWrite frameOf madeTag
+written-parts k body space after slice tag ps s t w r q e all size c p z =
+    let v = is-written k body space p z in
+    let M = joined ps in
+    let fits : length M ≤ 1048576 = rw q (omega (arith, v .fits .most)) in
+    let some : 1 ≤ length M = rw q (v .fits .some) in
+    let none = tags-none k (length M) (length slice) (record { set = v .fits .set; size = size; fits = fits; some = some }) in
+    let is = closed-parts k ps s t slice tag (tagSlice k M slice) r (tagAnswer k M (length slice)) fits e all c (refl, refl) in
+    let made : r ≡ madeTag (tagged k body) =
+    is .0 ∙ making-is (messageNumber k (length M) (length slice)) (tagged k M) none ∙ ap (λ (x : List ℕ). madeTag (tagged k x)) q in
+    let bytes-are : tag ≡ bytes (tagged k body .tag) =
+    is .1 ∙ slice-is (messageNumber k (length M) (length slice)) (tagged k M) slice none
+    ∙ ap (λ (x : List ℕ). bytes (tagged k x .tag)) q in (
+      ap (λ (x : TagAnswer). x .number) made,
+      v .line ∙ ap (λ (x : List ℕ). encoded (body ++ x)) (sym bytes-are),
+      ap (λ (x : Written). x .whole) (v .answer) ∙ ap (λ (x : TagAnswer). x .whole) (sym made),
+      ap (λ (x : Written). x .four) (v .answer) ∙ ap (λ (x : TagAnswer). x .four) (sym made),
+    )
+
 -- DEMAND 3
 pub demand-3 : Demand3
 unfolding madeTag checkedTag
 demand-3 = record {
-  closed-as-whole =
-      λ k ps s t l after after′ r r′ fits e all c w.
-      let a = parts-alike k ps s t (length l) e fits all in
-      (c .0 ∙ making-same (a .number) (a .tag) ∙ sym (w .0), c .1 ∙ slice-same (a .number) (a .tag) l ∙ sym (w .1));
+  closed-as-whole = closed-parts;
   checked-as-whole = checked-parts;
   judged-as-parts = judged-parts;
   part-done = part-added;
@@ -189,5 +225,7 @@ demand-3 = record {
       let is = c ∙ checking-is n (closed-stream k s) (k .bits) l (checking-some k s l r c z) in
       (ap (λ (x : TagAnswer). x .whole) is ∙ closed-adds k s .0, ap (λ (x : TagAnswer). x .four) is ∙ closed-adds k s .1);
   bound = bound-of;
-  checked-in-parts = in-parts;
+  written-as-parts = written-parts;
+  checked-in-parts = check-in-parts;
+  sent-in-parts = send-in-parts;
 }

@@ -2,9 +2,9 @@
 -- Assumes nothing.
 use mathlib.Core.Path.{_≡_, ap, sym, _∙_}
 use mathlib.Core.Logic.{_↔_}
-use mathlib.Core.List.{List}
-use Prim.Native.Nat.{ℕ}
-use lib.ListN.{length, take}
+use mathlib.Core.List.{List, _++_}
+use Prim.Native.Nat.{ℕ, _+_, _≤_}
+use lib.ListN.{length, take, drop}
 use Rattle.block.specs.Bits.{bits, bytes}
 use Rattle.pcmac.specs.Taggen.{TAGGEN}
 use Rattle.pcmac.specs.Tagver.{accepted, TAGVER}
@@ -17,13 +17,20 @@ use Rattle.tag.proofs.Answered.{making-is, slice-is, checking-is}
 use Rattle.message.specs.Answer.{messageNumber, tagged}
 use Rattle.message.specs.Promise.{TagPromise, VerifyPromise}
 use Rattle.message.proofs.Number.{tags-none}
+use Rattle.hex.specs.Line.{encoded}
+use Rattle.writer.specs.declared.Written.{Written}
+use Rattle.writer.specs.Line.{frameOf, lineOf, doneWrite}
+use Rattle.writer.specs.Promise.{WritePromise}
+use Rattle.writer.proofs.Number.{Fits, writes-none}
+use Rattle.writer.proofs.Told.{number-is, is-written}
 use Rattle.demands.specs.Numbers.{Verdict}
-use Rattle.demands.specs.Terms.{Made, Message}
+use Rattle.demands.specs.Terms.{Made, Message, lineFor}
 use Rattle.demands.specs.Two.{Demand2}
 use Rattle.demands.proofs.Frames as of-frames
 use Rattle.demands.proofs.KeySet.{made-meant, made-taken, made-tag}
 use Rattle.demands.proofs.Lines.{key-line-read, line-judged}
 use Rattle.demands.proofs.Numbers.{decided}
+use Rattle.demands.proofs.Shore.{shore-and-ship}
 
 -- a message, under a key set that the key call answers for K and L
 module _ {order size : ℕ} {K L M : List ℕ} {made : KeyAnswer} (m : Made order size K L made) (g : Message M) where
@@ -59,6 +66,26 @@ module _ {order size : ℕ} {K L M : List ℕ} {made : KeyAnswer} (m : Made orde
       (λ q. equal-tagver d p K L M T (accepted-equal p (bits received) (t .tag) q ∙ made-tag m M))
       (λ q. equal-accepted p (bits received) (t .tag) (tagver-equal d p K L M T q ∙ sym (made-tag m M)))
 
+-- a body's line, written in a space
+line-written : {order size : ℕ} {K L : List ℕ} (M space after : List ℕ) {made : KeyAnswer} (w : Written) → Made order size K L made
+    → 1 ≤ length M → length M + tagBytes (made .keys .bits) ≤ 255 → 510 ≤ length space → WritePromise (made .keys) M space w after
+    → (w .number ≡ 0)
+    × (w .written ≡ length (lineFor (made .keys .order) (made .keys .bits) K L M))
+    × (after
+    ≡ lineFor (made .keys .order) (made .keys .bits) K L M
+    ++ drop (length (lineFor (made .keys .order) (made .keys .bits) K L M)) space)
+unfolding doneWrite frameOf
+line-written {order} {size} {K} {L} M space after {made} w m some most room e =
+    let k = made .keys in
+    let fits : Fits k (length M) = record { set = made-taken m; some = some; most = most } in
+    let none = number-is k M space e ∙ writes-none k (length space) (length M) room fits in
+    let t = is-written k M space e none in
+    let line : lineOf k M ≡ lineFor (k .order) (k .bits) K L M = ap (λ (T : List ℕ). encoded (M ++ bytes T)) (made-tag m M) in (
+      none,
+      ap (λ (x : Written). x .written) (t .answer) ∙ ap length line,
+      t .laid ∙ ap (λ (x : List ℕ). x ++ drop (length x) space) line,
+    )
+
 -- DEMAND 2
 pub demand-2 : Demand2
 demand-2 = record {
@@ -72,4 +99,6 @@ demand-2 = record {
   opened = of-frames.opened-frame;
   opened-or = of-frames.opened-frame-or;
   opened-or-kept = of-frames.opened-frame-or;
+  line-written = λ order size K L M space after made w m some most room p. line-written M space after w m some most room p;
+  shore-and-ship = shore-and-ship;
 }

@@ -136,11 +136,10 @@ module _ {order size : ℕ} {K L : List ℕ} {made : KeyAnswer} (m : Made order 
   frame-made M r some most e =
       let p = k .bits in
       let T = bytes (TAGGEN (k .order) p K L M) in
-      let few : p ≤ 128 = made-taken m .tag .high in
-      let size : length (M ++ T) ≡ length M + tagBytes p = length-append M T ∙ omega (arith, taggen-length (k .order) p K L M few) in
+      let size : length (M ++ T) ≡ length M + tagBytes p = length-append M T ∙ omega (arith, taggen-length m M) in
       let end : length M ≡ bodyEnd p (M ++ T) = omega arith in
       let genuine : Genuine (k .order) p K L (M ++ T) =
-      rw (← end, take-at M T (length M) refl, drop-at M T (length M) refl) (taggen-back (k .order) p K L M few) in
+      rw (← end, take-at M T (length M) refl, drop-at M T (length M) refl) (taggen-back m M) in
       let j = frame-judged (M ++ T) r (record { some = omega arith; most = omega arith }) e in
       let z = j .0 .1 genuine in
       (z, j .2 z ∙ sym end)

@@ -6,6 +6,8 @@ pub mod Frames
 pub mod KeySet
 pub mod Lines
 pub mod Numbers
+pub mod Sent
+pub mod Shore
 pub mod TagBits
 pub mod When
 pub mod Whole

@@ -43,6 +43,8 @@ use Rattle.frame.specs.Promise.{JudgePromise}
 use Rattle.frame.proofs.Judged.{faulty, checked, tagAccepted}
 use Rattle.frame.proofs.Opened as opened
 use Rattle.answer.specs.Promise.{OfLinePromise}
+use Rattle.writer.specs.Line.{writeNumber}
+use Rattle.writer.proofs.Told as written
 use Rattle.demands.specs.Numbers.{
   when_give_otherwise_,
   Done,
@@ -56,10 +58,12 @@ use Rattle.demands.specs.Numbers.{
   LineGives,
   KeyLineGives,
   FrameGives,
+  WriteGives,
   Numbers,
 }
 use Rattle.demands.proofs.KeySet.{key-number}
 use Rattle.demands.proofs.Lines as of-lines
+use Rattle.demands.proofs.Sent.{send-empties}
 use Rattle.demands.proofs.When.{By, by-fault, judged, at-last, two-first, tells-most, tells-some, tells-above}
 use Rattle.demands.proofs.When.{tells-not-above, tells-equal, tells-itself, tells-both, tells-up-to}
 use Rattle.stream.proofs.Number.{added-by, refused-by}
@@ -112,6 +116,14 @@ module _ {n : ℕ} where
   of-frame k f b =
       of-set k _
       (judged 7 _ (tells-both _ _ (tells-most (length f) 255) (tells-above (length f) (tagBytes (k .bits)))) at-last) b
+
+  of-writing : (k : KeySet) (body : List ℕ) (space : List ℕ) → By (writeNumber k (length space) (length body)) Done n
+      → WriteGives k body space n
+  unfolding writeNumber
+  of-writing k body space b =
+      of-set k _
+      (judged 2 _ (tells-most 510 (length space))
+      (judged 9 _ (tells-both _ _ (tells-some (length body)) (tells-most (length body + tagBytes (k .bits)) 255)) at-last)) b
 
 -- the key call's tests, in turn
 in-turn : (s t u : Bool)
@@ -201,4 +213,6 @@ numbers = record {
   key-line-gives = key-line-gives;
   judge-gives = λ k f r e. of-frame k f (judging-by k f e);
   frame-line-gives = λ k line r e. of-decoding line 255 (line-by k line r e) .1 (λ h. omega arith);
+  send-empties = send-empties;
+  write-gives = λ k body space after w e. of-writing k body space (by-fault (written.number-is k body space e));
 }

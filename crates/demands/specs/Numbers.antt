@@ -1,7 +1,7 @@
 -- The number that each call gives, for every input: its faults in the order in which they are judged, each with its number.
 -- Assumes nothing.
 use mathlib.Core.Path.{_≡_}
-use mathlib.Core.Logic.{_⊎_}
+use mathlib.Core.Logic.{_⊎_, _↔_}
 use mathlib.Core.Bool.{false}
 use mathlib.Core.List.{List}
 use Prim.Native.Nat.{ℕ, _+_, _*_, _≤_, _<_}
@@ -23,6 +23,9 @@ use Rattle.keyline.specs.Promise.{ReadPromise}
 use Rattle.frame.specs.declared.FrameAnswer.{FrameAnswer}
 use Rattle.frame.specs.Promise.{JudgePromise}
 use Rattle.answer.specs.Promise.{OfLinePromise}
+use Rattle.writer.specs.declared.Written.{Written}
+use Rattle.writer.specs.Promise.{WritePromise}
+use Rattle.outgoing.specs.Promise as outgoing
 
 infixr 1 when_give_otherwise_
 -- what is said of a number n: where the fault applies n is the number given, and where it does not, n is as the rest says
@@ -107,6 +110,22 @@ FrameGives keys f =
     otherwise when (255 < length f) ⊎ (length f ≤ tagBytes (keys .bits)) give 8
     otherwise Verdict
 
+-- a body's frame line written in a space: the space has 510 bytes, also where the line would be short, and the body is not empty and fits
+-- a frame with its tag
+abbrev pub WriteGives : KeySet → List ℕ → List ℕ → ℕ → Type 0
+WriteGives keys body space =
+    when NoOrder keys give 1
+    otherwise when NoTagLength keys give 2
+    otherwise when length space < 510 give 3
+    otherwise when (length body ≡ 0) ⊎ (255 < length body + tagBytes (keys .bits)) give 10
+    otherwise Done
+
+-- a body line that send answers by an empty line: it is no line of at most 510 digits in pairs, or the writer refuses what it says
+abbrev pub NotSent : KeySet → List ℕ → Type 0
+NotSent keys line =
+    (510 < length line) ⊎ (isHex line ≡ false) ⊎ NoOrder keys ⊎ NoTagLength keys ⊎ (length (decoded line) ≡ 0)
+    ⊎ (255 < length (decoded line) + tagBytes (keys .bits))
+
 -- and these are the calls' numbers
 pub record Numbers : Type 0 where
   pub key-call-gives : (order bits : ℕ) (K L : List ℕ) (made : KeyAnswer) → KeyCallPromise order bits K L made
@@ -130,3 +149,8 @@ pub record Numbers : Type 0 where
   -- a frame line is decoded first, and only then judged as a frame
   pub frame-line-gives : (keys : KeySet) (line : List ℕ) (r : FrameAnswer) → OfLinePromise keys line r
       → LineGives line (FrameGives keys (decoded line)) (r .number)
+  pub write-gives : (keys : KeySet) (body space after : List ℕ) (w : Written) → WritePromise keys body space w after
+      → WriteGives keys body space (w .number)
+  -- send's text at a body line, in a space that has room, is a line feed alone exactly where the line is not sent
+  pub send-empties : (keys : KeySet) (line space after : List ℕ) (r : ℕ) → 511 ≤ length space → outgoing.TellPromise keys line space r after
+      → (r ≡ 1) ↔ NotSent keys line

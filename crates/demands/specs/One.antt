@@ -29,7 +29,10 @@ use Rattle.bridge.specs.Promise.{OpenOrKeepPromise}
 use Rattle.session.specs.declared.State.{State}
 use Rattle.session.specs.declared.Stepped.{Stepped}
 use Rattle.answer.specs.Promise.{OfLinePromise, TellPromise}
-use Rattle.session.specs.Promise.{BeginPromise, IsOverPromise, StepPromise, FinishPromise}
+use Rattle.writer.specs.declared.Written.{Written}
+use Rattle.writer.specs.Promise.{WritePromise}
+use Rattle.outgoing.specs.Promise as outgoing
+use Rattle.session.specs.Promise.{WidthPromise, BeginPromise, IsOverPromise, StepPromise, FinishPromise}
 use Rattle.demands.specs.Numbers.{Numbers}
 use Rattle.demands.specs.Terms.{bodyEnd}
 
@@ -54,11 +57,15 @@ pub record Answers : Type 0 where
   pub opens : (keys : KeySet) (frame : RefT (List ℕ)) → (o : RefT (List ℕ)) × OpenPromise keys frame o
   pub opens-or : (keys : KeySet) (frame table : RefT (List ℕ)) → (o : RefT (List ℕ)) × OpenOrPromise keys frame table o
   pub opens-or-keeps : (keys : KeySet) (frame table : RefT (List ℕ)) → (o : RefT (List ℕ)) × OpenOrKeepPromise keys frame table o
-  -- the program check: a frame line and the text of its answer in a space; its state at the start, a part of its input, the end of it, and
-  -- whether it is over
+  -- a body's frame line written
+  pub writes : (keys : KeySet) (body space : List ℕ) → (w : Written) × (after : List ℕ) × WritePromise keys body space w after
+  -- the program check: a frame line, and the text of its answer in a space; the program send: the text at a body line in a space
   pub judges-line : (keys : KeySet) (line : List ℕ) → (r : FrameAnswer) × OfLinePromise keys line r
   pub tells : (a : FrameAnswer) (space : List ℕ) → (r : ℕ) × (after : List ℕ) × TellPromise a space r after
-  pub begins : (s : State) × BeginPromise s
+  pub sends : (keys : KeySet) (line space : List ℕ) → (r : ℕ) × (after : List ℕ) × outgoing.TellPromise keys line space r after
+  -- either of them: how long a text may be, its state at the start, a part of its input, the end of it, and whether it is over
+  pub has-width : (kind : ℕ) → (r : ℕ) × WidthPromise kind r
+  pub begins : (kind : ℕ) → (s : State) × BeginPromise kind s
   pub steps : (s : State) (part space : List ℕ) → (r : Stepped) × (after : List ℕ) × StepPromise s part space r after
   pub finishes : (s : State) (space : List ℕ) → (r : Stepped) × (after : List ℕ) × FinishPromise s space r after
   pub is-over : (s : State) → (r : Bool) × IsOverPromise s r
@@ -90,6 +97,9 @@ pub record RefusalsOfLinesAndFrames : Type 0 where
   -- encoding bytes: each character of the space, and none counted
   pub encode-refused : (bytes space after : List ℕ) (r : LineAnswer) → EncodePromise bytes space r after → (r .number ≡ 0 → ⊥)
       → (after ≡ space) × (r .written ≡ 0)
+  -- writing a frame line: each byte of the space, no counts and no characters
+  pub write-refused : (keys : KeySet) (body space after : List ℕ) (w : Written) → WritePromise keys body space w after
+      → (w .number ≡ 0 → ⊥) → (after ≡ space) × (w .whole ≡ 0) × (w .four ≡ 0) × (w .written ≡ 0)
   -- the key line: no steps, and a set of zeros
   pub key-line-refused : (line : List ℕ) (made : KeyAnswer) → ReadPromise line made → (made .number ≡ 0 → ⊥)
       → (made .steps ≡ 0) × (made .keys ≡ noSet)

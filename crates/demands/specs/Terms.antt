@@ -1,15 +1,16 @@
 -- What the three demands speak of.
 -- Assumes nothing.
 use mathlib.Core.Path.{_≡_}
-use mathlib.Core.List.{List, [], _∷_}
+use mathlib.Core.List.{List, [], _∷_, _++_}
 use Prim.Native.Nat.{ℕ, _-_, _≤_, _<_}
-use lib.ListN.{length, take, drop}
-use Rattle.block.specs.Bits.{bits}
+use lib.ListN.{length, getD, take, drop}
+use Rattle.block.specs.Bits.{bits, bytes}
 use Rattle.pcmac.specs.Taggen.{TAGGEN}
 use Rattle.keys.specs.declared.KeySet.{KeySet}
 use Rattle.keys.specs.declared.KeyAnswer.{KeyAnswer}
 use Rattle.keys.specs.Promise.{KeyCallPromise}
 use Rattle.tag.specs.Tag.{tagBytes}
+use Rattle.hex.specs.Line.{encoded}
 use Rattle.judge.specs.declared.Stream.{Stream}
 use Rattle.stream.specs.declared.Added.{Added}
 use Rattle.stream.specs.Promise.{AddPromise}
@@ -36,6 +37,18 @@ bodyEnd p f = length f - tagBytes p
 -- the frame's tag is its body's: the first p bits behind the body are those that TAGGEN gives for the body
 abbrev pub Genuine : ℕ → ℕ → List ℕ → List ℕ → List ℕ → Type 0
 Genuine d p K L f = take p (bits (drop (bodyEnd p f) f)) ≡ TAGGEN d p K L (take (bodyEnd p f) f)
+
+-- the frame of a body: the body, and behind it the bytes of the tag that TAGGEN gives for it
+abbrev pub frameFor : ℕ → ℕ → List ℕ → List ℕ → List ℕ → List ℕ
+frameFor d p K L M = M ++ bytes (TAGGEN d p K L M)
+
+-- and its line: two characters for each byte
+abbrev pub lineFor : ℕ → ℕ → List ℕ → List ℕ → List ℕ → List ℕ
+lineFor d p K L M = encoded (frameFor d p K L M)
+
+-- each number of a list is a byte, as those of a slice of bytes are
+abbrev pub Octets : List ℕ → Type 0
+Octets l = (j : ℕ) → getD l j 0 < 256
 
 -- the parts of a message added to a stream, one call after the other: from s, by answers that are permitted, to t
 abbrev pub AddedAll : KeySet → Stream → List (List ℕ) → Stream → Type 0

@@ -1,8 +1,9 @@
--- DEMAND 3. A message under one key set, cut anywhere into parts, has the tag and the verdict of the whole; each part within the limit is
--- done, and the total is the length of the parts; the counts are the definition's; and a part takes no more steps than it may.
+-- DEMAND 3. A message under one key set, cut anywhere into parts, has the tag and the verdict of the whole, and a body the line; a
+-- program's input so cut has the output of the whole. Each part within the limit is done, and the total is the length of the parts; the
+-- counts are the definition's; and a part takes no more steps than it may.
 -- Assumes nothing.
 use mathlib.Core.Path.{_≡_}
-use mathlib.Core.List.{List}
+use mathlib.Core.List.{List, _++_}
 use Prim.Native.Nat.{ℕ, _+_, _≤_}
 use lib.ListN.{length, take, drop}
 use Rattle.laws.specs.Joined.{joined}
@@ -11,12 +12,18 @@ use Rattle.pcmac.specs.Taggen.{keysOf, chained}
 use Rattle.keys.specs.declared.KeySet.{KeySet}
 use Rattle.keys.specs.declared.KeyAnswer.{KeyAnswer}
 use Rattle.tag.specs.declared.TagAnswer.{TagAnswer}
+use Rattle.tag.specs.Tag.{tagBytes}
 use Rattle.judge.specs.declared.Stream.{Stream}
 use Rattle.stream.specs.declared.Added.{Added}
 use Rattle.stream.specs.Promise.{StartPromise, AddPromise, ClosePromise, CheckPromise}
 use Rattle.message.specs.Promise.{TagPromise, VerifyPromise}
+use Rattle.hex.specs.Line.{encoded}
 use Rattle.frame.specs.declared.FrameAnswer.{FrameAnswer}
 use Rattle.frame.specs.Promise.{JudgePromise}
+use Rattle.writer.specs.declared.Written.{Written}
+use Rattle.writer.specs.Promise.{WritePromise}
+use Rattle.session.specs.Output.{checkOutput, sendOutput}
+use Rattle.session.specs.Session.{sendKind}
 use Rattle.session.specs.Cut.{InParts}
 use Rattle.demands.specs.Numbers.{Verdict}
 use Rattle.demands.specs.Terms.{Made, Frame, bodyEnd, AddedAll}
@@ -59,5 +66,12 @@ pub record Demand3 : Type 0 where
   pub bound : (keys : KeySet) (s : Stream) (part : List ℕ) (a : Added) → AddPromise keys s part a
       → (a .stream .whole + a .stream .four ≤ s .whole + s .four + up (length part) 16)
       × (a .stream .whole ≤ s .whole + up (up (length part) 16) (keys .order + 1))
-  -- the program check: an input, cut anywhere into parts, some perhaps empty, has the output of the whole
-  pub checked-in-parts : InParts
+  -- the writer's line and counts are those of the body cut anywhere into parts: closed, they give its tag and its counts
+  pub written-as-parts : (keys : KeySet) (body space after slice tag : List ℕ) (parts : List (List ℕ)) (s t : Stream) (w : Written)
+      (r : TagAnswer) → joined parts ≡ body → StartPromise s → AddedAll keys s parts t → length slice ≡ tagBytes (keys .bits)
+      → ClosePromise keys t slice r tag → WritePromise keys body space w after → w .number ≡ 0
+      → (r .number ≡ 0) × (take (w .written) after ≡ encoded (body ++ tag)) × (w .whole ≡ r .whole) × (w .four ≡ r .four)
+  -- the programs check, which every kind but send's is, and send: an input, cut anywhere into parts, some perhaps empty, has the output
+  -- of the whole
+  pub checked-in-parts : (kind : ℕ) → (kind ≡ sendKind → ⊥) → InParts kind checkOutput
+  pub sent-in-parts : InParts sendKind sendOutput

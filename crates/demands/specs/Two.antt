@@ -1,6 +1,6 @@
 -- DEMAND 2. Under every key set that the key call answers for K and L, the tag made is TAGGEN's, and a received tag is accepted exactly
 -- when TAGVER accepts its first p bits, and otherwise refused with 7. A frame is accepted by the same rule, and an accepted one yields
--- its own body. The definitions are those of NEC's specification over FIPS 197.
+-- its own body. The writer's line has the body and TAGGEN's tag. The definitions are those of NEC's specification over FIPS 197.
 -- Assumes nothing.
 use mathlib.Core.Path.{_≡_}
 use mathlib.Core.Bool.{true}
@@ -25,8 +25,11 @@ use Rattle.frame.specs.declared.FrameAnswer.{FrameAnswer}
 use Rattle.frame.specs.Promise.{JudgePromise, OpenPromise, OpenOrPromise}
 use Rattle.bridge.specs.Promise.{OpenOrKeepPromise}
 use Rattle.answer.specs.Promise.{OfLinePromise}
+use Rattle.writer.specs.declared.Written.{Written}
+use Rattle.writer.specs.Promise.{WritePromise}
 use Rattle.demands.specs.Numbers.{Verdict}
-use Rattle.demands.specs.Terms.{Made, Message, Frame, bodyEnd, Genuine}
+use Rattle.demands.specs.Shore.{ShoreAndShip}
+use Rattle.demands.specs.Terms.{Made, Message, Frame, bodyEnd, Genuine, frameFor, lineFor}
 
 -- all of it. The specification's d and p are those of the key set: made .keys .order and made .keys .bits
 pub record Demand2 : Type 0 where
@@ -57,7 +60,7 @@ pub record Demand2 : Type 0 where
   -- and a body with the bytes of its tag behind it is accepted, as just that body
   pub frame-made : (order bits : ℕ) (K L M : List ℕ) (made : KeyAnswer) (r : FrameAnswer) → Made order bits K L made → 1 ≤ length M
       → length M + tagBytes (made .keys .bits) ≤ 255
-      → JudgePromise (made .keys) (M ++ bytes (TAGGEN (made .keys .order) (made .keys .bits) K L M)) r
+      → JudgePromise (made .keys) (frameFor (made .keys .order) (made .keys .bits) K L M) r
       → (r .number ≡ 0) × (r .body ≡ length M)
   -- a frame line of at most 510 digits, in pairs, is judged as the frame that it says
   pub line-judged : (keys : KeySet) (line : List ℕ) (r : FrameAnswer) → length line ≤ 510 → isHex line ≡ true
@@ -72,3 +75,14 @@ pub record Demand2 : Type 0 where
   pub opened-or-kept : (keys : KeySet) (frame table o : RefT (List ℕ)) (r : FrameAnswer) → JudgePromise keys (now frame) r
       → r .number ≡ 0 → OpenOrKeepPromise keys frame table o
       → (now o ≡ take (bodyEnd (keys .bits) (now frame)) (now frame)) × (ptr o ≡ ptr frame)
+  -- the writer's line is the body, and behind it the bytes of the tag that TAGGEN gives for it, in hexadecimal; every byte of the space
+  -- behind the line keeps its value
+  pub line-written : (order bits : ℕ) (K L M space after : List ℕ) (made : KeyAnswer) (w : Written) → Made order bits K L made
+      → 1 ≤ length M → length M + tagBytes (made .keys .bits) ≤ 255 → 510 ≤ length space → WritePromise (made .keys) M space w after
+      → (w .number ≡ 0)
+      × (w .written ≡ length (lineFor (made .keys .order) (made .keys .bits) K L M))
+      × (after
+      ≡ lineFor (made .keys .order) (made .keys .bits) K L M
+      ++ drop (length (lineFor (made .keys .order) (made .keys .bits) K L M)) space)
+  -- what the writer writes check accepts, and the other way round; and so for the two programs
+  pub shore-and-ship : ShoreAndShip

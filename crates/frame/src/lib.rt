@@ -12,7 +12,7 @@ use numbers::BAD_LENGTH;
 use numbers::DONE;
 
 // The most bytes of a frame.
-const LONGEST: usize = 255;
+pub const LONGEST: usize = 255;
 
 // What judging a frame answers: its number, the steps of each kind, and how long its body is.
 pub struct FrameAnswer {

@@ -4,7 +4,7 @@
 use mathlib.Core.Path.{_≡_, refl, ap, ap₂, sym, _∙_}
 use mathlib.Core.Bool.{true}
 use mathlib.Core.Logic.{⊎-elim}
-use mathlib.Core.List.{List, [], _∷_}
+use mathlib.Core.List.{List, [], _∷_, _++_}
 use Prim.Native.Nat.{ℕ, zero, suc, _+_, _*_, _/_, _%_, _≤_, _<_}
 use native.Mathlib.Nat.{not-suc-le-zero, le-of-suc-le-suc}
 use native.Mathlib.Omega.{arith}
@@ -56,6 +56,12 @@ pub encoded-length : (bs : List ℕ) → length (encoded bs) ≡ 2 * length bs
 unfolding encoded
 encoded-length [] = refl
 encoded-length (b ∷ bs) = omega (arith, encoded-length bs)
+
+-- those of some bytes and then of others
+pub encoded-append : (a b : List ℕ) → encoded (a ++ b) ≡ encoded a ++ encoded b
+unfolding encoded
+encoded-append [] b = refl
+encoded-append (x ∷ a) b = ap (λ (y : List ℕ). characterOf (x / 16) ∷ characterOf (x % 16) ∷ y) (encoded-append a b)
 
 pub encoded-high : (bs : List ℕ) (i : ℕ) → i < length bs → getD (encoded bs) (2 * i) 0 ≡ characterOf (getD bs i 0 / 16)
 unfolding encoded

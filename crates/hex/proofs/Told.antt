@@ -93,12 +93,12 @@ module _ (line space : List ℕ) {r : LineAnswer} {after : List ℕ} (p : Decode
   is-unwritten h = unwritten (decodeNumber (length space) line) (decoded line) space p h
 
   -- in any case at most 255 bytes are counted, and the space is as long as it was
-  pub written-most : r .written ≤ 255
+  written-most : r .written ≤ 255
   written-most =
       ⊎-elim (λ z. let w = is-written z in omega (arith, w .count, w .may .fits)) (λ h. omega (arith, is-unwritten h .1))
       (none-or-some (r .number))
 
-  pub after-length : length after ≡ length space
+  after-length : length after ≡ length space
   after-length = ⊎-elim written (λ h. ap length (is-unwritten h .0)) (none-or-some (r .number))
     where
       written : r .number ≡ 0 → length after ≡ length space
@@ -107,3 +107,17 @@ module _ (line space : List ℕ) {r : LineAnswer} {after : List ℕ} (p : Decode
           let n = decoded-length line in
           ap length (w .laid) ∙ length-append (decoded line) (drop (length (decoded line)) space)
           ∙ omega (arith, length-drop (length (decoded line)) space, w .may .fits, w .may .room)
+
+-- decoded into a space of the least size: the number is the line's, and what was written lies within the space
+module _
+    (line space : List ℕ)
+    {r : LineAnswer}
+    {after : List ℕ}
+    (size : length space ≡ 255)
+    (p : DecodePromise line space r after)
+  where
+    pub least-number : decodeNumber 255 line ≡ r .number
+    least-number = ap (λ (n : ℕ). decodeNumber n line) (sym size) ∙ sym (number-is line space p)
+
+    pub least-within : r .written ≤ length after
+    least-within = omega (arith, written-most line space p, after-length line space p)

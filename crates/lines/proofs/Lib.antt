@@ -4,4 +4,5 @@ pub mod Moving
 pub mod Plain
 pub mod Reader
 pub mod Refuted
+pub mod Telling
 pub mod Tidied

@@ -3,3 +3,4 @@ pub mod Lines
 pub mod Moves
 pub mod Promise
 pub mod Reader
+pub mod Tell

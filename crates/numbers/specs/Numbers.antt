@@ -15,8 +15,8 @@ badOrder = 1
 abbrev pub badTagLength : ℕ
 badTagLength = 2
 
--- K or L is not 16 bytes; a tag slice has not just the bytes of a tag; the space for a decoded line is under 255 bytes, or that
--- for an encoded one under two characters a byte
+-- K or L is not 16 bytes; a tag slice has not just the bytes of a tag; the space for a decoded line is under 255 bytes, that for an
+-- encoded one under two characters a byte, or that for a frame line under 510
 abbrev pub badSize : ℕ
 badSize = 3
 
@@ -44,7 +44,11 @@ badLength = 8
 abbrev pub notHex : ℕ
 notHex = 9
 
--- all of them, in the order of the outline's table
+-- a body is empty, or it and its tag together are above 255 bytes
+abbrev pub badBody : ℕ
+badBody = 10
+
+-- all of them, in the order of the outline's table, and behind them the writer's own
 abbrev pub numbers : List ℕ
 numbers =
-    done ∷ badOrder ∷ badTagLength ∷ badSize ∷ badStream ∷ tooLong ∷ noBytes ∷ tagDiffers ∷ badLength ∷ notHex ∷ []
+    done ∷ badOrder ∷ badTagLength ∷ badSize ∷ badStream ∷ tooLong ∷ noBytes ∷ tagDiffers ∷ badLength ∷ notHex ∷ badBody ∷ []

@@ -13,7 +13,8 @@ pub const BAD_ORDER: u8 = 1;
 pub const BAD_TAG_LENGTH: u8 = 2;
 
 // K or L is not 16 bytes; a tag slice has not just the bytes of a tag; the space for a decoded line is
-// under 255 bytes, or that for an encoded one under two characters a byte.
+// under 255 bytes, that for an encoded one under two characters a byte, or that for a frame line under
+// 510.
 pub const BAD_SIZE: u8 = 3;
 
 // The stream is not well formed.
@@ -34,3 +35,6 @@ pub const BAD_LENGTH: u8 = 8;
 
 // An odd number of characters, or one that is not 0-9 or A-F.
 pub const NOT_HEX: u8 = 9;
+
+// A body is empty, or it and its tag together are above 255 bytes.
+pub const BAD_BODY: u8 = 10;

@@ -94,6 +94,14 @@ fn encode<'a>(q: Question, bytes: &'a [u8], out: &'a mut [u8]) -> usize {
     show::space(out, at, space, n)
 }
 
+fn write<'a>(asked: &'a [u8], q: Question, body: &'a [u8], out: &'a mut [u8]) -> usize {
+    let mut space = [q.fill; 1024];
+    let n = at_most(q.size, 1024);
+    let a = writer::write(fields::key_set(asked), body, &mut space[..n]);
+    let at = show::written(out, a);
+    show::space(out, at, space, n)
+}
+
 // Makes the call of a question, with the bytes of its fields. A line that is no question has no answer.
 pub(crate) fn made<'a>(
     asked: &'a [u8],
@@ -118,6 +126,7 @@ pub(crate) fn made<'a>(
         question::OPEN_OR => open_or(asked, first, second, out),
         question::OPEN_OR_KEEP => open_or_keep(asked, first, second, out),
         question::ENCODE => encode(q, first, out),
+        question::WRITE => write(asked, q, first, out),
         _ => 0,
     }
 }

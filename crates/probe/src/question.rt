@@ -31,6 +31,8 @@ pub(crate) const OPEN_OR_KEEP: u8 = 13;
 
 pub(crate) const ENCODE: u8 = 14;
 
+pub(crate) const WRITE: u8 = 15;
+
 // A line that is no question.
 pub(crate) const NO_CALL: u8 = 0;
 
@@ -50,7 +52,7 @@ fn fixed(call: u8) -> usize {
     match call {
         KEY_CALL => 16,
         ADD | CLOSE | CHECK => 578,
-        TAG | VERIFY | JUDGE | OPEN | OPEN_OR | OPEN_OR_KEEP => 514,
+        TAG | VERIFY | JUDGE | OPEN | OPEN_OR | OPEN_OR_KEEP | WRITE => 514,
         _ => 0,
     }
 }
@@ -59,7 +61,7 @@ fn fixed(call: u8) -> usize {
 fn has_first(call: u8) -> bool {
     match call {
         KEY_CALL | READ | ADD | CHECK | TAG | VERIFY | DECODE | ENCODE => true,
-        JUDGE | OPEN | OPEN_OR | OPEN_OR_KEEP => true,
+        JUDGE | OPEN | OPEN_OR | OPEN_OR_KEEP | WRITE => true,
         _ => false,
     }
 }
@@ -75,7 +77,7 @@ fn has_second(call: u8) -> bool {
 // Whether a space is lent to it.
 fn is_lent(call: u8) -> bool {
     match call {
-        CLOSE | TAG | DECODE | ENCODE => true,
+        CLOSE | TAG | DECODE | ENCODE | WRITE => true,
         _ => false,
     }
 }

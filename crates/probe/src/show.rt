@@ -9,6 +9,7 @@ use keys::KeySet;
 use stream::Added;
 use stream::Stream;
 use tag::TagAnswer;
+use writer::Written;
 
 // The digit of the low half of a byte.
 fn digit(x: u8) -> u8 {
@@ -122,6 +123,13 @@ pub(crate) fn frame_answer(out: &mut [u8], a: FrameAnswer) -> usize {
     let at = byte(out, 0, a.number);
     let body = counts(out, at, a.whole, a.four);
     number(out, body, a.body)
+}
+
+// What writing a frame line answers.
+pub(crate) fn written(out: &mut [u8], a: Written) -> usize {
+    let at = byte(out, 0, a.number);
+    let chars = counts(out, at, a.whole, a.four);
+    number(out, chars, a.written)
 }
 
 // A space, as many of its bytes as were lent.

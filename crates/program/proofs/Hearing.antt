@@ -42,13 +42,14 @@ unfolding unwritten
 unwritten-told s = refl
 
 -- at the end of the input: without room for a text, and with it
-pub end-cramped : (room : ℕ) → room < width → noRoom ≡ endReason room
-unfolding endReason
-end-cramped room h = rw (lt-ltb room width h)
+module _ (kind room : ℕ) {most : ℕ} (e : most ≡ width kind) where
+  pub end-cramped : room < most → noRoom ≡ endReason kind room
+  unfolding endReason
+  end-cramped h = rw (lt-ltb room (width kind) (omega (arith, e)))
 
-pub end-roomy : (room : ℕ) → width ≤ room → inputEnded ≡ endReason room
-unfolding endReason
-end-roomy room h = rw (le-ltb room width h)
+  pub end-roomy : most ≤ room → inputEnded ≡ endReason kind room
+  unfolding endReason
+  end-roomy h = rw (le-ltb room (width kind) (omega (arith, e)))
 
 -- what a read that failed hands back: interrupted, or not
 pub unread-again : (s : State) (b : Bool) → b ≡ true → record { reason = goesOn; state = s } ≡ unread s b
@@ -61,7 +62,7 @@ unread-failed s b h = rw h
 
 -- the finishing step: what it hands back, and what the space holds
 module _ (s : State) (space : List ℕ) {r : Stepped} {after : List ℕ} (p : FinishPromise s space r after) where
-  pub ended-told : {k : ℕ} → k ≡ endReason (length space) → record { reason = k; state = r .state } ≡ ended s space
+  pub ended-told : {k : ℕ} → k ≡ endReason (s .kind) (length space) → record { reason = k; state = r .state } ≡ ended s space
   unfolding ended
   ended-told e =
       let state-is = ap (λ (x : Stepped). x .state) (p .0) in

@@ -1,7 +1,7 @@
 -- What is made of a read, for every state, whatever the read gave and brought, and every space. What is written, and whether a write
 -- fails, no contract can see: that all of a part was answered is told by the state alone, at the end of the input also by the space, and
 -- a write that failed by the reason. So a program that says that a write failed which went out, or writes something else than what the
--- step left in its space, is not ruled out here: runs show that (tests/check, tests/failures).
+-- step left in its space, is not ruled out here: runs show that (tests/check, tests/send, tests/failures).
 -- Assumes nothing.
 use mathlib.Core.Path.{_≡_}
 use mathlib.Core.Bool.{Bool, false}

@@ -28,7 +28,7 @@ use Rattle.program.specs.Run.{Runs, heardIn, heard-once}
 -- what is made of a read that did not fail is told apart from a write that failed
 answered-most : (s : State) (part : List ℕ) → answered s part .reason ≤ sessionOver
 unfolding answered toldOf
-answered-most s part = most (over (stateOf (reads turnOf (readerOf s) part)))
+answered-most s part = most (over (stateOf (s .kind) (reads turnOf (readerOf s) part)))
   where
     most : (b : Bool) → pick b sessionOver goesOn ≤ sessionOver
     most true = omega arith
@@ -46,7 +46,7 @@ not-unwritten s got interrupted input space h e =
     by (eqb (clamped got (length input)) 0) (answered s part) (answered-most s part) (rw h at e)
   where
     by : (b : Bool) (a : Heard) → a .reason ≤ sessionOver → pick b (ended s space) a .reason ≡ writeFailed → ⊥
-    by true a k e = ended-not (ltb (length space) width) e
+    by true a k e = ended-not (ltb (length space) (width (s .kind))) e
     by false a k e = omega arith
 
 -- hear has an outcome for every input
@@ -73,11 +73,11 @@ hear-once s got interrupted input space r r′ after after′ p q e = (by (p .0)
     by (inr f) (inl g) = absurd (differs r′ r g (f .0) (f .1) (sym e))
     by (inr f) (inr g) = once (f .1) (g .1)
 
--- run hands back how the loop ended, from the start of a session on
-abbrev pub RunPromise : ℕ → Ran → Type 0
-RunPromise reads r = (s : State) × BeginPromise s × Runs reads s r
+-- run hands back how the loop ended, and the state at its end, from the start of a program of a kind on
+abbrev pub RunPromise : ℕ → ℕ → Ran → Type 0
+RunPromise kind reads r = (s : State) × BeginPromise kind s × Runs reads s r
 
 -- any two outcomes that run may have are equal, where at their turns the same was made of the reads
-pub run-once : (reads : ℕ) (r r′ : Ran) (p : RunPromise reads r) (q : RunPromise reads r′)
+pub run-once : (kind reads : ℕ) (r r′ : Ran) (p : RunPromise kind reads r) (q : RunPromise kind reads r′)
     → heardIn reads (p .0) r (p .2) ≡ heardIn reads (q .0) r′ (q .2) → r ≡ r′
-run-once reads r r′ p q e = heard-once reads (p .0) (q .0) r r′ (p .2) (q .2) e
+run-once kind reads r r′ p q e = heard-once reads (p .0) (q .0) r r′ (once (p .1) (q .1)) (p .2) (q .2) e

@@ -48,11 +48,11 @@ toldOf state = record { reason = pick (over state) sessionOver goesOn; state = s
 
 -- a part that is answered: the reader's state after it
 unfoldable pub answered : State → List ℕ → Heard
-answered s part = toldOf (stateOf (reads turnOf (readerOf s) part))
+answered s part = toldOf (stateOf (s .kind) (reads turnOf (readerOf s) part))
 
--- at the end of the input, with so much room
-unfoldable pub endReason : ℕ → ℕ
-endReason room = pick (ltb room width) noRoom inputEnded
+-- at the end of the input of a program of a kind, with so much room
+unfoldable pub endReason : ℕ → ℕ → ℕ
+endReason kind room = pick (ltb room (width kind)) noRoom inputEnded
 
 -- how many bytes of what a state lacks the finishing step takes, with so much room: all of them, where there is room for a text
 abbrev pub closes : State → ℕ → ℕ
@@ -61,7 +61,7 @@ closes s room = takenOf s (closing (readerOf s)) room
 -- at the end of the input: the state after the finishing step
 unfoldable pub ended : State → List ℕ → Heard
 ended s space = record {
-  reason = endReason (length space);
+  reason = endReason (s .kind) (length space);
   state = stepAnswer s (closing (readerOf s)) (closes s (length space)) .state;
 }
 

@@ -1,11 +1,11 @@
 // What surrounds the step of a program of lines: it reads standard input, has what came answered, and
-// writes the answers to standard output, until the input ends, the session is over, or a read or a write
+// writes the texts to standard output, until the input ends, the session is over, or a read or a write
 // fails. No contract can see what a read brought or a write did. So what a read gave is an argument of
 // `hear`, whether a write failed is told by the reason that is handed back, and of `run` it is promised
 // that there are turns, each of them one that `hear` permits, by which it ends as it does.
 //
 //     fn main() {
-//         program::run(b"check", u64::MAX);
+//         program::run(session::CHECK, b"check", u64::MAX);
 //     }
 ghost use mathlib.Core.Path.{_≡_};
 ghost use Prim.Native.Nat.{_≤_};
@@ -19,7 +19,6 @@ use libc::STDERR_FILENO;
 use libc::STDIN_FILENO;
 use libc::STDOUT_FILENO;
 use session::State;
-use session::WIDTH;
 
 // Why a turn ended, or the loop: more may be read; nothing more is answered; the input has ended; a read
 // failed; a write did; or the input has ended, and the space has no room for a last text.
@@ -35,8 +34,9 @@ pub const WRITE_FAILED: u8 = 4;
 
 pub const NO_ROOM: u8 = 5;
 
-// The bytes of answers that are written at a time, at most: 780 verdicts, where a full read brings 281
-// frames with bodies of 100 bytes. They are cleared for each part, so they are not many more.
+// The bytes of texts that are written at a time, at most: 780 verdicts, or 69 frame lines of bodies of 100
+// bytes with tags of 16, where a full read brings 281 such frames or 326 such bodies. They are cleared for
+// each part, so they are not many more.
 const SPACE: usize = 16384;
 
 // What was made of a read: why the turn ended, and the state after it; the state that was given where the
@@ -46,10 +46,11 @@ pub struct Heard {
     pub state: State,
 }
 
-// Why the loop ended, and how many reads were left.
+// Why the loop ended, how many reads were left, and the state at its end.
 pub struct Ran {
     pub reason: u8,
     pub reads: u64,
+    pub state: State,
 }
 
 // Whether a read failed, by what it gave.
@@ -59,7 +60,7 @@ fn failed(got: isize) -> bool
     got < 0
 }
 
-// After a part of the input, of which all answers were written.
+// After a part of the input, of which all texts were written.
 fn told(state: State) -> Heard
     ensures { λ r. ⌜ r ≡ toldOf state ⌝ }
 {
@@ -75,7 +76,7 @@ fn told(state: State) -> Heard
     }
 }
 
-// Answers a part of the input: as much of it as a space has room for the answers to, again and again,
+// Answers a part of the input: as much of it as a space has room for the texts at, again and again,
 // and what was written goes out each time. A write that was interrupted counts as one that failed.
 fn answer(s: State, part: &[u8]) -> Heard
     requires { ⌜ 1 ≤ length (now part) ⌝ }
@@ -100,18 +101,22 @@ fn answer(s: State, part: &[u8]) -> Heard
     told(state)
 }
 
-// At the end of the input, by the room that there is for a last text.
-fn end_reason(room: usize) -> u8
-    ensures { λ r. ⌜ r ≡ endReason room ⌝ }
+// At the end of the input, by the room that there is for a last text, in a program of a kind.
+fn end_reason(kind: u8, room: usize) -> u8
+    ensures { λ r. ⌜ r ≡ endReason kind room ⌝ }
 {
-    if room < WIDTH { NO_ROOM } else { INPUT_ENDED }
+    if room < session::width(kind) {
+        NO_ROOM
+    } else {
+        INPUT_ENDED
+    }
 }
 
 // The end of the input: a last line may lack its line feed.
 fn finish(s: State, space: &mut [u8]) -> Heard
     ensures { λ r. ⌜ Finishes s (now (space .entry)) r (now (space .exit)) ⌝ }
 {
-    let reason = end_reason(space.len());
+    let reason = end_reason(s.kind, space.len());
     let a = session::finish(s, space);
     let end = a.written;
     if !io::write_all(STDOUT_FILENO, &space[..end]) {
@@ -125,7 +130,7 @@ fn finish(s: State, space: &mut [u8]) -> Heard
 }
 
 // What is made of a read: of what it gave, of whether it was only interrupted, and of what it brought. The
-// answers go to standard output. A read that failed is no end of the input: the line that is begun is not
+// texts go to standard output. A read that failed is no end of the input: the line that is begun is not
 // answered. The space is for the text at a last line that lacks its line feed.
 pub fn hear<'a>(
     s: State,
@@ -157,12 +162,12 @@ pub fn hear<'a>(
 
 // Turn by turn, a read each. A proved loop has to end, and nothing says that the input does: so many
 // reads are made at most.
-fn turns(reads: u64) -> Ran
-    ensures { λ r. ⌜ RunPromise reads r ⌝ }
+fn turns(kind: u8, reads: u64) -> Ran
+    ensures { λ r. ⌜ RunPromise kind reads r ⌝ }
 {
     let mut input = io::large_buffer();
     let mut space = io::buffer();
-    let mut s = session::begin();
+    let mut s = session::begin(kind);
     let mut left = reads;
     while left > 0 {
         left -= 1;
@@ -170,18 +175,20 @@ fn turns(reads: u64) -> Ran
         let interrupted = os::errno() == EINTR;
         let h = hear(s, got, interrupted, &input, &mut space);
         let reason = h.reason;
+        let next = h.state;
+        s = next;
         if reason != GOES_ON {
             return Ran {
                 reason,
                 reads: left,
+                state: s,
             };
         }
-        let next = h.state;
-        s = next;
     }
     Ran {
         reason: GOES_ON,
         reads: 0,
+        state: s,
     }
 }
 
@@ -197,12 +204,13 @@ fn complain(name: &[u8], reason: u8) {
     }
 }
 
-// The program, of at most so many reads: how it ended, and how many were left. What failed is said. (A
-// line that is begun when no read is left is not answered: 2^64 - 1 reads are more than any run makes.)
-pub fn run(name: &[u8], reads: u64) -> Ran
-    ensures { λ r. ⌜ RunPromise reads r ⌝ }
+// The program of a kind, of at most so many reads: how it ended, how many were left, and the state at its
+// end. What failed is said. (A line that is begun when no read is left is not answered: 2^64 - 1 reads are
+// more than any run makes.)
+pub fn run(kind: u8, name: &[u8], reads: u64) -> Ran
+    ensures { λ r. ⌜ RunPromise kind reads r ⌝ }
 {
-    let r = turns(reads);
+    let r = turns(kind, reads);
     complain(name, r.reason);
     r
 }

@@ -18,26 +18,26 @@ use Rattle.session.specs.Promise.{takenOf, saidOver, stepAnswer, StepPro
 
 module _ (s : State) (part space : List ℕ) {r : Stepped} {after : List ℕ} (p : StepPromise s part space r after) where
   -- how many bytes are taken
-  taken-is : r .taken ≡ takes turnOf tellOf width (readerOf s) (length space) part
+  taken-is : r .taken ≡ takes turnOf (tellOf (s .kind)) (width (s .kind)) (readerOf s) (length space) part
   unfolding stepAnswer takenOf
   taken-is = ap (λ (x : Stepped). x .taken) (p .0)
 
   pub taken-most : r .taken ≤ length part
-  taken-most = omega (arith, taken-is, takes-most turnOf tellOf width (readerOf s) (length space) part)
+  taken-most = omega (arith, taken-is, takes-most turnOf (tellOf (s .kind)) (width (s .kind)) (readerOf s) (length space) part)
 
-  pub taken-some : width ≤ length space → 1 ≤ length part → 1 ≤ r .taken
-  taken-some h k = omega (arith, taken-is, takes-some turnOf tellOf width (readerOf s) (length space) part h k)
+  pub taken-some : width (s .kind) ≤ length space → 1 ≤ length part → 1 ≤ r .taken
+  taken-some h k = omega (arith, taken-is, takes-some turnOf (tellOf (s .kind)) (width (s .kind)) (readerOf s) (length space) part h k)
 
-  pub taken-all : width * length part ≤ length space → r .taken ≡ length part
-  taken-all h = taken-is ∙ takes-all turnOf tellOf width tell-most (readerOf s) (length space) part h
+  pub taken-all : width (s .kind) * length part ≤ length space → r .taken ≡ length part
+  taken-all h = taken-is ∙ takes-all turnOf (tellOf (s .kind)) (width (s .kind)) (tell-most (s .kind)) (readerOf s) (length space) part h
 
   -- what is said over them
   abbrev over : List ℕ
-  over = said turnOf tellOf (readerOf s) (take (r .taken) part)
+  over = said turnOf (tellOf (s .kind)) (readerOf s) (take (r .taken) part)
 
   over-is : saidOver s part (takenOf s part (length space)) ≡ over
   unfolding saidOver takenOf
-  over-is = ap (λ (n : ℕ). said turnOf tellOf (readerOf s) (take n part)) (sym taken-is)
+  over-is = ap (λ (n : ℕ). said turnOf (tellOf (s .kind)) (readerOf s) (take n part)) (sym taken-is)
 
   pub written-is : r .written ≡ length over
   unfolding stepAnswer
@@ -48,8 +48,8 @@ module _ (s : State) (part space : List ℕ) {r : Stepped} {after : List ℕ} (p
 
   over-most : length over ≤ length space
   over-most =
-      let h = said-room turnOf tellOf width tell-most (readerOf s) (length space) part in
-      let e = ap (λ (n : ℕ). length (said turnOf tellOf (readerOf s) (take n part))) taken-is in
+      let h = said-room turnOf (tellOf (s .kind)) (width (s .kind)) (tell-most (s .kind)) (readerOf s) (length space) part in
+      let e = ap (λ (n : ℕ). length (said turnOf (tellOf (s .kind)) (readerOf s) (take n part))) taken-is in
       omega (arith, h, e)
 
   -- it lies within the space, which is as long as it was
@@ -66,12 +66,12 @@ module _ (s : State) (part space : List ℕ) {r : Stepped} {after : List ℕ} (p
       ap (λ (n : ℕ). take n after) written-is ∙ ap (take (length over)) after-is ∙ take-append-seam over (drop (length over) space)
 
   -- the state is that of the reader after them
-  pub state-after : r .state ≡ stateOf (reads turnOf (readerOf s) (take (r .taken) part))
+  pub state-after : r .state ≡ stateOf (s .kind) (reads turnOf (readerOf s) (take (r .taken) part))
   unfolding stepAnswer takenOf
   state-after =
-      ap (λ (x : Stepped). x .state) (p .0) ∙ ap (λ (n : ℕ). stateOf (reads turnOf (readerOf s) (take n part))) (sym taken-is)
+      ap (λ (x : Stepped). x .state) (p .0) ∙ ap (λ (n : ℕ). stateOf (s .kind) (reads turnOf (readerOf s) (take n part))) (sym taken-is)
 
--- at the end of the input, where frames are awaited and a line is begun, the text at it is written
+-- at the end of the input, behind the key line, where a line is begun, the text at it is written
 module _
     (s : State)
     (space : List ℕ)
@@ -80,14 +80,15 @@ module _
     (size : length (s .line) ≡ keptChars)
     (stage : s .stage ≡ 1)
     (begun : s .count ≡ 0 → ⊥)
-    (room : width ≤ length space)
+    (room : width (s .kind) ≤ length space)
     (p : FinishPromise s space r after)
   where
-    pub last-told : take (r .written) after ≡ lineTell (s .keys) (take (s .count) (s .line))
+    pub last-told : take (r .written) after ≡ lineTell (s .kind) (s .keys) (take (s .count) (s .line))
     unfolding said readerOf tellOf
     last-told =
         let end : closing (readerOf s) ≡ lineFeed ∷ [] = closing-feed s size begun in
-        let n : r .taken ≡ 1 = taken-all s (closing (readerOf s)) space p (rw end (omega arith)) ∙ ap length end in
+        let n : r .taken ≡ 1 = taken-all s (closing (readerOf s)) space p (rw end (omega (arith, room))) ∙ ap length end in
         written-over s (closing (readerOf s)) space p
-        ∙ ap₂ (λ (k : ℕ) (x : List ℕ). said turnOf tellOf (readerOf s) (take k x)) n end
-        ∙ said-feed turnOf tellOf (readerOf s) [] ∙ append-nil (tellOf (readerOf s .session) (readerOf s .line)) ∙ rw stage
+        ∙ ap₂ (λ (k : ℕ) (x : List ℕ). said turnOf (tellOf (s .kind)) (readerOf s) (take k x)) n end
+        ∙ said-feed turnOf (tellOf (s .kind)) (readerOf s) []
+        ∙ append-nil (tellOf (s .kind) (readerOf s .session) (readerOf s .line)) ∙ rw stage

@@ -15,15 +15,16 @@ over-turn : (a : Session) (line : List ℕ) → 2 ≤ a .stage → turnOf a line
 unfolding turnOf
 over-turn a line h = rw (ne-eqb (a .stage) 0 (λ z. omega arith))
 
-over-tell : (a : Session) (line : List ℕ) → 2 ≤ a .stage → tellOf a line ≡ []
+over-tell : (kind : ℕ) (a : Session) (line : List ℕ) → 2 ≤ a .stage → tellOf kind a line ≡ []
 unfolding tellOf
-over-tell a line h = rw (ne-eqb (a .stage) 0 (λ z. omega arith), ne-eqb (a .stage) 1 (λ z. omega arith))
+over-tell kind a line h = rw (ne-eqb (a .stage) 0 (λ z. omega arith), ne-eqb (a .stage) 1 (λ z. omega arith))
 
 -- at a character
-over-says : (r : Reader Session) (c : ℕ) → 2 ≤ r .session .stage → (b : Bool) → eqb c lineFeed ≡ b → says tellOf r c ≡ []
+over-says : (kind : ℕ) (r : Reader Session) (c : ℕ) → 2 ≤ r .session .stage → (b : Bool) → eqb c lineFeed ≡ b
+    → says (tellOf kind) r c ≡ []
 unfolding says
-over-says r c h true e = rw e (over-tell (r .session) (r .line) h)
-over-says r c h false e = rw e
+over-says kind r c h true e = rw e (over-tell kind (r .session) (r .line) h)
+over-says kind r c h false e = rw e
 
 over-next : (r : Reader Session) (c : ℕ) → 2 ≤ r .session .stage → (b : Bool) → eqb c lineFeed ≡ b
     → 2 ≤ next turnOf r c .session .stage
@@ -32,12 +33,12 @@ over-next r c h true e = rw (e, over-turn (r .session) (r .line) h) h
 over-next r c h false e = rw e h
 
 -- over some characters
-pub said-over : (r : Reader Session) (p : List ℕ) → 2 ≤ r .session .stage → said turnOf tellOf r p ≡ []
+pub said-over : (kind : ℕ) (r : Reader Session) (p : List ℕ) → 2 ≤ r .session .stage → said turnOf (tellOf kind) r p ≡ []
 unfolding said
-said-over r [] h = refl
-said-over r (c ∷ p) h =
-    ap₂ (λ (x y : List ℕ). x ++ y) (over-says r c h (eqb c lineFeed) refl)
-    (said-over (next turnOf r c) p (over-next r c h (eqb c lineFeed) refl))
+said-over kind r [] h = refl
+said-over kind r (c ∷ p) h =
+    ap₂ (λ (x y : List ℕ). x ++ y) (over-says kind r c h (eqb c lineFeed) refl)
+    (said-over kind (next turnOf r c) p (over-next r c h (eqb c lineFeed) refl))
 
 pub reads-over : (r : Reader Session) (p : List ℕ) → 2 ≤ r .session .stage → 2 ≤ reads turnOf r p .session .stage
 unfolding reads

@@ -1,6 +1,6 @@
 -- A state and the reader that it stands for.
 -- Assumes nothing.
-use mathlib.Core.Path.{_≡_, ap, sym, _∙_}
+use mathlib.Core.Path.{_≡_, ap, ap₂, sym, _∙_}
 use mathlib.Core.Bool.{Bool, true, false}
 use mathlib.Core.Logic.{⊎-elim}
 use mathlib.Core.List.{List, [], _∷_}
@@ -22,9 +22,9 @@ use Rattle.session.specs.Session.{Session, begun, readerOf, stateOf}
 use Rattle.session.specs.Inner.{Tidy, between}
 
 -- a reader whose line is within what is kept, out of its state again
-pub state-reader : (r : Reader Session) → length (r .line) ≤ keptChars → readerOf (stateOf r) ≡ r
+pub state-reader : (kind : ℕ) (r : Reader Session) → length (r .line) ≤ keptChars → readerOf (stateOf kind r) ≡ r
 unfolding readerOf stateOf
-state-reader r h = let e = laid-front (r .line) h in λ i. record { session = r .session; line = e i }
+state-reader kind r h = let e = laid-front (r .line) h in λ i. record { session = r .session; line = e i }
 
 -- the line of every state is within that, as its array is
 pub state-kept : (s : State) → length (s .line) ≡ keptChars → length (readerOf s .line) ≤ keptChars
@@ -32,38 +32,45 @@ unfolding readerOf
 state-kept s h = omega (arith, length-take (s .count) (s .line))
 
 -- a state that was made of such a reader stands for it, and is tidy
-module _ {s : State} (r : Reader Session) (h : length (r .line) ≤ keptChars) (e : s ≡ stateOf r) where
+module _ {s : State} (kind : ℕ) (r : Reader Session) (h : length (r .line) ≤ keptChars) (e : s ≡ stateOf kind r) where
   pub made-reader : readerOf s ≡ r
-  made-reader = ap readerOf e ∙ state-reader r h
+  made-reader = ap readerOf e ∙ state-reader kind r h
+
+  pub made-kind : s .kind ≡ kind
+  unfolding stateOf
+  made-kind = ap (λ (x : State). x .kind) e
 
   pub made-tidy : Tidy s
   unfolding stateOf
   made-tidy = record {
-    same = e ∙ ap stateOf (sym made-reader);
+    same = e ∙ ap₂ stateOf (sym made-kind) (sym made-reader);
     size = ap (λ (x : State). length (x .line)) e ∙ laid-length (r .line);
   }
 
 -- a state in which no line is begun
-pub state-fresh : (a : Session)
-    → record { stage = a .stage; keys = a .keys; line = replicate keptChars 0; count = 0 } ≡ stateOf (record { session = a; line = [] })
+pub state-fresh : (kind : ℕ) (a : Session)
+    → record { kind = kind; stage = a .stage; keys = a .keys; line = replicate keptChars 0; count = 0 }
+    ≡ stateOf kind (record { session = a; line = [] })
 unfolding stateOf
-state-fresh a = λ i. record { stage = a .stage; keys = a .keys; line = laid-none i; count = 0 }
+state-fresh kind a = λ i. record { kind = kind; stage = a .stage; keys = a .keys; line = laid-none i; count = 0 }
 
 -- the state at the start
-pub state-begun : {k : KeyAnswer} → k ≡ refusedKeys 0
-    → record { stage = 0; keys = k .keys; line = replicate keptChars 0; count = 0 } ≡ stateOf (record { session = begun; line = [] })
+pub state-begun : (kind : ℕ) {k : KeyAnswer} → k ≡ refusedKeys 0
+    → record { kind = kind; stage = 0; keys = k .keys; line = replicate keptChars 0; count = 0 }
+    ≡ stateOf kind (record { session = begun; line = [] })
 unfolding begun refusedKeys
-state-begun e = rw e (state-fresh begun)
+state-begun kind e = rw e (state-fresh kind begun)
 
 -- a state made tidy
 pub state-tidied : (s : State) {l : List ℕ} {n : ℕ} → length (s .line) ≡ keptChars → l ≡ laid (take (s .count) (s .line))
-    → n ≡ min (s .count) keptChars → record { stage = s .stage; keys = s .keys; line = l; count = n } ≡ stateOf (readerOf s)
+    → n ≡ min (s .count) keptChars
+    → record { kind = s .kind; stage = s .stage; keys = s .keys; line = l; count = n } ≡ stateOf (s .kind) (readerOf s)
 unfolding stateOf readerOf
 state-tidied s size el en =
     let e = en ∙ sym (length-take (s .count) (s .line) ∙ ap (min (s .count)) size) in
-    λ i. record { stage = s .stage; keys = s .keys; line = el i; count = e i }
+    λ i. record { kind = s .kind; stage = s .stage; keys = s .keys; line = el i; count = e i }
 
--- a state between two lines, where frames are awaited
+-- a state between two lines, behind the key line
 pub state-between : (s : State) → s .stage ≡ 1 → s .count ≡ 0 → readerOf s ≡ between (s .keys)
 unfolding readerOf
 state-between s e z = rw (e, z)

@@ -1,5 +1,5 @@
-pub mod Check
 pub mod Cut
 pub mod Inner
+pub mod Output
 pub mod Promise
 pub mod Session

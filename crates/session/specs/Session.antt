@@ -1,4 +1,4 @@
--- The program check (Check.antt), line by line: what the lines so far have made of a session, what is told at a line, and how both stand
+-- A program of lines (Output.antt), line by line: what the lines so far have made of a session, what is told at a line, and how both stand
 -- in the state's record.
 -- Assumes nothing.
 use mathlib.Core.Bool.{Bool}
@@ -12,18 +12,26 @@ use Rattle.keys.specs.declared.KeyAnswer.{KeyAnswer}
 use Rattle.numbers.specs.Numbers.{done}
 use Rattle.keys.specs.Answer.{noSet}
 use Rattle.keyline.specs.KeyLine.{keyLineAnswer}
-use Rattle.frame.specs.Frame.{refusedFrame}
 use Rattle.lines.specs.Reader.{Reader}
 use Rattle.lines.specs.Gather.{laid}
-use Rattle.answer.specs.Line.{lineAnswer}
-use Rattle.answer.specs.Text.{textLength, textOf}
+use Rattle.answer.specs.Text.{textLength}
+use Rattle.outgoing.specs.Text.{mostText, sentText}
 use Rattle.session.specs.declared.State.{State}
+use Rattle.session.specs.Output.{verdictText, refusalText, noText}
+
+-- the kinds of a program: check, which every number but send's is
+abbrev pub checkKind : ℕ
+checkKind = 0
+
+-- and send
+abbrev pub sendKind : ℕ
+sendKind = 1
 
 -- the stages: the key line is awaited
 abbrev pub awaitsKeys : ℕ
 awaitsKeys = 0
 
--- it has come, and frames are awaited
+-- it has come, and other lines are awaited
 abbrev pub hasKeys : ℕ
 hasKeys = 1
 
@@ -32,8 +40,16 @@ abbrev pub isOver : ℕ
 isOver = 2
 
 -- how long the text at a line may be
-abbrev pub width : ℕ
-width = textLength
+unfoldable pub width : ℕ → ℕ
+width kind = pick (eqb kind sendKind) mostText textLength
+
+-- what is told at a line behind the key line: the frame line of a body, or the verdict on a frame
+unfoldable pub lineTell : ℕ → KeySet → List ℕ → List ℕ
+lineTell kind keys line = pick (eqb kind sendKind) (sentText keys line) (verdictText keys line)
+
+-- at a key line that is refused, by its number: nothing, or its refusal
+unfoldable pub refusalTell : ℕ → ℕ → List ℕ
+refusalTell kind number = pick (eqb kind sendKind) (noText number) (refusalText number)
 
 -- a session: its stage and its key set
 pub record Session : Type 0 where
@@ -48,22 +64,19 @@ sessionOf stage keys = record { stage = stage; keys = keys }
 unfoldable pub keyTurn : KeyAnswer → Session
 keyTurn made = record { stage = pick (eqb (made .number) done) hasKeys isOver; keys = made .keys }
 
--- what is told at it: nothing, or its refusal
-unfoldable pub keyTell : KeyAnswer → List ℕ
-keyTell made = pick (eqb (made .number) done) [] (textOf (refusedFrame (made .number)))
-
--- what is told at a line behind it: the verdict on a frame
-unfoldable pub lineTell : KeySet → List ℕ → List ℕ
-lineTell keys line = textOf (lineAnswer keys line)
+-- what is told at it: nothing, or what is told of its refusal
+unfoldable pub keyTell : ℕ → KeyAnswer → List ℕ
+keyTell kind made = pick (eqb (made .number) done) [] (refusalTell kind (made .number))
 
 -- after a line
 unfoldable pub turnOf : Session → List ℕ → Session
 turnOf a line = pick (eqb (a .stage) awaitsKeys) (keyTurn (keyLineAnswer line)) a
 
 -- what is told at it
-unfoldable pub tellOf : Session → List ℕ → List ℕ
-tellOf a line =
-    pick (eqb (a .stage) awaitsKeys) (keyTell (keyLineAnswer line)) (pick (eqb (a .stage) hasKeys) (lineTell (a .keys) line) [])
+unfoldable pub tellOf : ℕ → Session → List ℕ → List ℕ
+tellOf kind a line =
+    pick (eqb (a .stage) awaitsKeys) (keyTell kind (keyLineAnswer line))
+    (pick (eqb (a .stage) hasKeys) (lineTell kind (a .keys) line) [])
 
 -- the session at the start
 unfoldable pub begun : Session
@@ -73,9 +86,10 @@ begun = record { stage = awaitsKeys; keys = noSet }
 unfoldable pub readerOf : State → Reader Session
 readerOf s = record { session = record { stage = s .stage; keys = s .keys }; line = take (s .count) (s .line) }
 
--- the state that stands for a reader: zeros behind the characters of its line
-unfoldable pub stateOf : Reader Session → State
-stateOf r = record {
+-- the state of a program of a kind that stands for a reader: zeros behind the characters of its line
+unfoldable pub stateOf : ℕ → Reader Session → State
+stateOf kind r = record {
+  kind = kind;
   stage = r .session .stage;
   keys = r .session .keys;
   line = laid (r .line);

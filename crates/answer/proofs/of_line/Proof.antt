@@ -2,7 +2,8 @@
 -- Assumes nothing.
 use mathlib.Core.Path.{sym}
 use lib.Seq.{length-take-le}
-use Rattle.answer.proofs.Answered.{written-within, line-refused, line-judged}
+use Rattle.hex.proofs.Told.{least-within}
+use Rattle.answer.proofs.Answered.{line-refused, line-judged}
 use borrow.Author.Needs.{needs}
 use Rattle.answer.proofs.of_line.Statement.{statement}
 use Rattle.answer.proofs.of_line.Tie as tie
@@ -24,14 +25,14 @@ returns c =
 array-share-prefix-space : tie.Need-array-share-prefix-space
 array-share-prefix-space c =
     let at-decode = c .before .before .before in
-    written-within (at-decode .before .before .before .args .keys) _ _ (search needs) (at-decode .decode .ensures)
+    least-within _ _ (search needs) (at-decode .decode .ensures)
 
 slice-aggregate-judge : tie.Need-slice-aggregate-judge
 slice-aggregate-judge c =
     let at-decode = c .before .before .before .before in
     sym
     (length-take-le _ _
-    (written-within (at-decode .before .before .before .args .keys) _ _ (search needs) (at-decode .decode .ensures)))
+    (least-within _ _ (search needs) (at-decode .decode .ensures)))
 
 judge-requires : tie.Need-judge-requires
 judge-requires c κs = search needs

@@ -1,12 +1,13 @@
 -- `answer::tell` meets its contract. By whether the space has room for the text.
 -- Assumes nothing.
-use Rattle.answer.proofs.Spelt.{tells-nothing, tells-encoded}
+use Rattle.lines.proofs.Telling.{tells-nothing}
+use Rattle.answer.proofs.Spelt.{tells-encoded}
 use borrow.Author.Needs.{needs}
 use Rattle.answer.proofs.tell.Statement.{statement}
 use Rattle.answer.proofs.tell.Tie as tie
 
 returns : tie.Need-returns
-returns c = tells-nothing _ _ (c .if1 .taken)
+returns c = tells-nothing _ _ _ (c .if1 .taken)
 
 bytes-of-requires : tie.Need-bytes-of-requires
 bytes-of-requires c κs = search needs

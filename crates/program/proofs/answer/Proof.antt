@@ -9,6 +9,7 @@ use lib.Seq.{length-take-le}
 use mir.Syntax.{w64}
 use mir.Val.{Fits}
 use Rattle.session.specs.Session.{width}
+use Rattle.session.proofs.Telling.{width-most}
 use Rattle.program.proofs.Answering.{Answering, answering-none, answering-more, answering-all}
 use Rattle.program.proofs.Answering.{step-some, step-most, step-within, step-length}
 use Rattle.program.proofs.Hearing.{unwritten-told}
@@ -22,8 +23,11 @@ Inv-loop s part space₀ state₀ at₀ space state at = (16384 ≡ length space
 abbrev μ-loop : tie.MeasureT-loop
 μ-loop s part space₀ state₀ at₀ space state at = length part - at
 
-room : (c : tie.After-step Inv-loop μ-loop) → width ≤ length (c .before .before .before .before .loop .space)
-room c = omega (arith, c .before .before .before .before .loop .inv .0)
+room : (c : tie.After-step Inv-loop μ-loop)
+    → width (c .before .before .before .before .before .before .args .s .kind) ≤ length (c .before .before .before .before .loop .space)
+room c =
+    let at-loop = c .before .before .before .before in
+    omega (arith, at-loop .loop .inv .0, width-most (at-loop .before .before .args .s .kind))
 
 more : (c : tie.After-step Inv-loop μ-loop)
     → suc (c .before .before .before .before .loop .at)

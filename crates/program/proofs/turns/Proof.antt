@@ -1,9 +1,11 @@
 -- `program::turns` meets its contract. Turn by turn; one read fewer is left each time.
 -- Assumes nothing.
 use mathlib.Core.Path.{_≡_}
-use Prim.Native.Nat.{_<_}
+use Prim.Native.Nat.{_≤_, _<_}
 use native.Mathlib.Omega.{arith}
 use lib.ListN.{length}
+use Rattle.session.specs.Session.{width}
+use Rattle.session.proofs.Telling.{width-most}
 use Rattle.program.specs.declared.Ran.{Ran}
 use Rattle.program.specs.Run.{Runs}
 use Rattle.program.proofs.Running.{runs-more, runs-stop, runs-none}
@@ -13,11 +15,15 @@ use Rattle.program.proofs.turns.Tie as tie
 
 -- whatever the loop may hand back from here, it may from the start
 abbrev Inv-loop : tie.InvT-loop
-Inv-loop reads input₀ space₀ s₀ left₀ input space s left =
+Inv-loop kind reads input₀ space₀ s₀ left₀ input space s left =
     (65536 ≡ length input) × (4096 ≡ length space) × ((r : Ran) → Runs left s r → Runs reads s₀ r)
 
 abbrev μ-loop : tie.MeasureT-loop
-μ-loop reads input₀ space₀ s₀ left₀ input space s left = left
+μ-loop kind reads input₀ space₀ s₀ left₀ input space s left = left
+
+-- the space has room for a last text
+room : (c : tie.At-loop Inv-loop μ-loop) → width (c .loop .s .kind) ≤ length (c .loop .space)
+room c = omega (arith, c .loop .inv .1, width-most (c .loop .s .kind))
 
 large-buffer-requires : tie.Need-large-buffer-requires Inv-loop μ-loop
 large-buffer-requires c κs = search needs
@@ -54,14 +60,14 @@ hear-requires c κs = search needs
 
 returns : tie.Need-returns Inv-loop μ-loop
 returns c =
-    let at-hear = c .before .before in
+    let at-hear = c .before .before .before in
     let at-test = at-hear .before .before .before .before .before .before .before in
     let l = at-test .before .loop in
     let at-begin = at-test .before .before in
     let some : 0 < l .left = omega (arith, at-test .loop-test .taken) in (
       at-begin .begin .result,
       at-begin .begin .ensures,
-      l .inv .2 _ (runs-stop _ _ _ _ _ (at-hear .hear .ensures) (l .left) some (c .if1 .taken)),
+      l .inv .2 _ (runs-stop _ _ _ _ _ (room (at-test .before)) (at-hear .hear .ensures) (l .left) some (c .if1 .taken)),
     )
 
 loop-less : tie.Need-loop-less Inv-loop μ-loop
@@ -75,7 +81,7 @@ loop-again c =
     let some : 0 < l .left = omega (arith, at-test .loop-test .taken) in (
       search needs,
       search needs,
-      λ r q. l .inv .2 r (runs-more _ _ _ _ _ (at-hear .hear .ensures) (l .left) r some (c .before .if1 .left) q),
+      λ r q. l .inv .2 r (runs-more _ _ _ _ _ (room (at-test .before)) (at-hear .hear .ensures) (l .left) r some (c .if1 .left) q),
     )
 
 returns-2 : tie.Need-returns-2 Inv-loop μ-loop

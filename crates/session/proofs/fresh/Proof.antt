@@ -6,7 +6,7 @@ use Rattle.session.proofs.fresh.Statement.{statement}
 use Rattle.session.proofs.fresh.Tie as tie
 
 returns : tie.Need-returns
-returns c = state-fresh (sessionOf (c .before .args .t .stage) (c .before .args .t .keys))
+returns c = state-fresh _ (sessionOf (c .before .args .t .stage) (c .before .args .t .keys))
 
 pub fresh-spec : {M : Type 1} → statement M
 fresh-spec = tie.close (tie.spec returns)

@@ -3,7 +3,6 @@
 use native.Mathlib.Omega.{arith}
 use Prim.Native.Nat.{_-_}
 use borrow.Author.Tests.{lt-ltb, le-ltb, lt-leb}
-use Rattle.session.specs.Session.{width}
 use borrow.Author.Needs.{needs}
 use Rattle.session.proofs.goes.Statement.{statement}
 use Rattle.session.proofs.goes.Tie as tie
@@ -14,7 +13,7 @@ returns c = let a = c .before .args in rw (le-ltb (a .at) (a .end) (search needs
 returns-2 : tie.Need-returns-2
 returns-2 c =
     let a = c .before .before .args in
-    rw (lt-ltb (a .at) (a .end) (search needs), lt-leb width (a .room - a .out) (omega (arith, c .if2 .taken)))
+    rw (lt-ltb (a .at) (a .end) (search needs), lt-leb (a .most) (a .room - a .out) (omega (arith, c .if2 .taken, c .before .before .pre)))
 
 sub-result : tie.Need-sub-result
 sub-result c = search needs

@@ -1,48 +1,23 @@
 -- `session::keys_told` meets its contract. By the key line's number.
 -- Assumes nothing.
-use Rattle.session.proofs.Telling.{wrote-text, keys-accepted, keys-refused}
+use Rattle.session.proofs.Telling.{keys-accepted, keys-refused}
 use borrow.Author.Needs.{needs}
 use Rattle.session.proofs.keys_told.Statement.{statement}
 use Rattle.session.proofs.keys_told.Tie as tie
 
 returns : tie.Need-returns
-returns c = keys-accepted _ _ _ (c .if1 .taken)
+returns c = keys-accepted _ _ _ _ (c .if1 .taken)
 
-refused-requires : tie.Need-refused-requires
-refused-requires c κs = search needs
-
-sub-tell : tie.Need-sub-tell
-sub-tell c = search needs
-
-part-tell-start : tie.Need-part-tell-start
-part-tell-start c = search needs
-
-part-tell-end : tie.Need-part-tell-end
-part-tell-end c = search needs
-
-tell-requires : tie.Need-tell-requires
-tell-requires c κs = search needs
+refusal-told-requires : tie.Need-refusal-told-requires
+refusal-told-requires c κs = search needs
 
 same-length : tie.Need-same-length
 same-length c = search needs
 
 returns-2 : tie.Need-returns-2
 returns-2 c =
-    let at-tell = c .before .before in
-    let at-refused = at-tell .before .before in
-    let a = at-refused .before .before .before .before .before in
-    keys-refused _ _ _ (at-refused .before .if1 .left) (at-refused .refused .ensures)
-    (wrote-text _ _ _ (a .pre) (at-tell .tell .ensures))
+    let at-told = c .before .before in
+    keys-refused _ _ _ _ (at-told .before .before .if1 .left) (at-told .refusal-told .ensures)
 
 pub keys-told-spec : {M : Type 1} → statement M
-keys-told-spec =
-    tie.close
-    (tie.spec
-    returns
-    refused-requires
-    sub-tell
-    part-tell-start
-    part-tell-end
-    tell-requires
-    same-length
-    returns-2)
+keys-told-spec = tie.close (tie.spec returns refusal-told-requires same-length returns-2)

@@ -1,7 +1,7 @@
 -- `session::line_told` meets its contract. By the stage.
 -- Assumes nothing.
 use Rattle.session.specs.Session.{sessionOf}
-use Rattle.session.proofs.Telling.{tells-keys, tells-frame, tells-nothing}
+use Rattle.session.proofs.Telling.{tells-keys, tells-line, tells-nothing}
 use borrow.Author.Needs.{needs}
 use Rattle.session.proofs.line_told.Statement.{statement}
 use Rattle.session.proofs.line_told.Tie as tie
@@ -19,7 +19,7 @@ returns : tie.Need-returns
 returns c =
     let at-read = c .before .before .before .before in
     let a = at-read .before .before .before .before .args in
-    tells-keys (sessionOf (a .stage) (a .keys)) _ _ _ (at-read .before .if1 .taken) (at-read .read .ensures)
+    tells-keys _ (sessionOf (a .stage) (a .keys)) _ _ _ (at-read .before .if1 .taken) (at-read .read .ensures)
     (c .before .before .keys-told .ensures)
 
 tell-requires : tie.Need-tell-requires
@@ -32,12 +32,12 @@ returns-2 : tie.Need-returns-2
 returns-2 c =
     let at-if = c .before .before .before .before in
     let a = at-if .before .before .before .before .args in
-    tells-frame (sessionOf (a .stage) (a .keys)) _ _ _ (at-if .before .if1 .left) (at-if .if2 .taken) (c .before .before .tell .ensures)
+    tells-line _ (sessionOf (a .stage) (a .keys)) _ _ _ (at-if .before .if1 .left) (at-if .if2 .taken) (c .before .before .tell .ensures)
 
 returns-3 : tie.Need-returns-3
 returns-3 c =
     let a = c .before .before .before .before .args in
-    tells-nothing (sessionOf (a .stage) (a .keys)) _ _ _ (c .before .if1 .left) (c .if2 .left)
+    tells-nothing _ (sessionOf (a .stage) (a .keys)) _ _ _ (c .before .if1 .left) (c .if2 .left)
 
 pub line-told-spec : {M : Type 1} → statement M
 line-told-spec =

@@ -1,4 +1,4 @@
--- `session::pass_whole` meets its contract. Where frames are awaited and no line is begun, by the lines that lie whole in the part.
+-- `session::pass_whole` meets its contract. Behind the key line, where no line is begun, by the lines that lie whole in the part.
 -- Assumes nothing.
 use Rattle.session.proofs.Turning.{passed-none, passed-lines}
 use borrow.Author.Needs.{needs}

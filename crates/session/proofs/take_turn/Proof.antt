@@ -20,7 +20,7 @@ out-fits : (c : tie.After-line-told)
     + c .line-told .result .written)
 out-fits c =
     let a = c .before .before .before .before .before .before .before .before .before .before .before .before in
-    let h = told-within _ _ _ _ (c .line-told .ensures) (a .pre .room) in
+    let h = told-within _ _ _ _ _ (c .line-told .ensures) (a .pre .room) in
     search needs
 
 find-requires : tie.Need-find-requires
