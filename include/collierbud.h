@@ -21,7 +21,8 @@
  *
  * What a call takes
  *
- *   order    1 to 5; 0 is read as 1
+ *   order    1 to 5; 0 is read as 2, which the newer units run. (Archives before landing 9 read 0 otherwise:
+ *            CHANGELOG.md. 1 to 5 mean the same in all.)
  *   bits     the length of a tag in bits, 1 to 128; 0 is read as 128. A tag occupies (bits + 7) / 8 bytes,
  *            16 where bits is 0; the spare low bits of its last byte are written as zeros, and not looked
  *            at in a check

@@ -54,11 +54,11 @@ static inline void make_subkey(const struct keys *keys, const uint8_t l[16], int
     encrypt_block(keys->round, r);
 }
 
-/* The key call, Algorithm 2.1. Order 0 is read as 1, and tag length 0 as 128; a refusal leaves a set of zeros. */
+/* The key call, Algorithm 2.1. Order 0 is read as 2, and tag length 0 as 128; a refusal leaves a set of zeros. */
 static inline enum number key_call(struct keys *keys, size_t order, size_t bits, const uint8_t k[16],
                                    const uint8_t l[16])
 {
-    int d = order == 0 ? 1 : (int)order;
+    int d = order == 0 ? 2 : (int)order;
 
     memset(keys, 0, sizeof *keys);
     if (order > 5)

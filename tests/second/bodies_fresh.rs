@@ -1,7 +1,8 @@
 //! Fresh inputs of the program send, at random. They are short: a program may answer them under an emulator.
 
 use crate::bodies::{nothing, Bodies};
-use crate::inputs::{key_line, Pair};
+use crate::inputs::{key_line, with_order, Pair};
+use crate::library::read_key_line;
 use crate::questions_keys::OTHERS;
 use crate::random::Random;
 
@@ -15,6 +16,8 @@ pub fn all(random: &mut Random) -> Vec<Pair> {
         very_long(random),
     ]);
     pairs.extend(refused_key_lines(random));
+    // Behind all others, so that they and the random numbers that they draw stay as they are.
+    pairs.push(order_00(random));
     pairs
 }
 
@@ -104,4 +107,19 @@ fn refused_key_lines(random: &mut Random) -> [Pair; 2] {
         spoilt[random.below(68)] = random.one_of(&OTHERS);
     }
     [wrong, spoilt].map(|line| nothing("refused key line", &[&line[..], b"\n", &right, b"\n\n00\n"].concat()))
+}
+
+/// The inputs above may all have other orders. What is written is held to the frames of order 2, and bodies of 49 bytes
+/// and more show them.
+fn order_00(random: &mut Random) -> Pair {
+    let length = random.below(129) as u8;
+    let line = key_line(random, 0, length);
+    let mut input = Bodies::with_key_line(&line);
+    input.keys = read_key_line(&with_order(&line, 2)).2;
+    for round in 0..32 {
+        let any = 1 + random.below(input.longest());
+        let count = [48, 49].get(round).copied().unwrap_or(any);
+        input.line_of(random, 2 * count);
+    }
+    input.named("order 00")
 }

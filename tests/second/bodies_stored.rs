@@ -36,6 +36,9 @@ fn key_lines(random: &mut Random) -> Vec<Pair> {
     let (mut empty, mut body) = (right.clone(), right.clone());
     empty.refused(b"");
     body.line_of(random, 300);
+    let [order_00, order_01] = order_00_and_01(random, 64);
+    let length_00 = Bodies::new(random, 3, 0).then_bodies(random);
+    let [both_00, order_01_length_00] = order_00_and_01(random, 0);
     vec![
         nothing("empty-input", b""),
         nothing("one-line-feed", b"\n"),
@@ -44,16 +47,19 @@ fn key_lines(random: &mut Random) -> Vec<Pair> {
         right.without_last_line_feed().named("key-line-alone-without-line-feed"),
         empty.named("key-line-and-one-empty-line"),
         body.without_last_line_feed().named("last-line-feed-missing"),
-        Bodies::new(random, 0, 64)
-            .then_bodies(random)
-            .named("key-line-order-00"),
-        Bodies::new(random, 3, 0)
-            .then_bodies(random)
-            .named("key-line-length-00"),
-        Bodies::new(random, 0, 0)
-            .then_bodies(random)
-            .named("key-line-order-and-length-00"),
+        order_00.named("key-line-order-00"),
+        length_00.named("key-line-length-00"),
+        both_00.named("key-line-order-and-length-00"),
+        order_01.named("key-line-order-01-in-place-of-00"),
+        order_01_length_00.named("key-line-order-01-in-place-of-00-length-00"),
     ]
+}
+
+/// Under order 00, and under 01 in its place, with the same K, L and bodies. Whoever relied on 00 when it was taken as
+/// order 1 must say 01 since item 2 of the requests: what is written for the second is what was for the first before.
+fn order_00_and_01(random: &mut Random, length: u8) -> [Bodies; 2] {
+    let mut again = Random(random.0);
+    [(0, random), (1, &mut again)].map(|(order, random)| Bodies::new(random, order, length).then_bodies(random))
 }
 
 impl Bodies {

@@ -5,7 +5,7 @@ use crate::inputs::Pair;
 use crate::random::Random;
 use crate::{aes, bodies_fresh, bodies_run, bodies_stored, inputs_fresh, inputs_run, inputs_stored, pcmac, week};
 use crate::{questions_encode, questions_frames, questions_keys, questions_lines};
-use crate::{questions_messages, questions_spoilt, questions_streams, questions_writer};
+use crate::{questions_messages, questions_order, questions_spoilt, questions_streams, questions_writer};
 use std::path::Path;
 use std::{fs, io};
 
@@ -41,6 +41,7 @@ fn book(seed: u64, dense: bool) -> Book {
     // Each behind all before it, so that those questions and the random numbers that they draw stay as they are.
     questions_encode::ask(&mut book);
     questions_writer::ask(&mut book);
+    questions_order::ask(&mut book);
     book
 }
 

@@ -116,6 +116,11 @@ pub fn key_line(random: &mut Random, order: u8, length: u8) -> Vec<u8> {
     hex::written(&[vec![order, length], random.bytes(32)].concat()).into_bytes()
 }
 
+/// The same key line with another order.
+pub fn with_order(line: &[u8], order: u8) -> Vec<u8> {
+    [hex::written(&[order]).as_bytes(), &line[2..]].concat()
+}
+
 /// A right frame with a body of 1 byte or more, at random.
 pub fn right_frame(random: &mut Random, keys: &KeySet) -> Vec<u8> {
     let most = 255 - tag_size(keys);

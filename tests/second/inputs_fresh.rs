@@ -1,6 +1,7 @@
 //! Fresh inputs of the program check, at random.
 
 use crate::inputs::{key_line, refused, Input, Pair};
+use crate::inputs_stored::frames_of_order_1_and_2;
 use crate::library::tag_size;
 use crate::random::Random;
 
@@ -13,6 +14,8 @@ pub fn all(random: &mut Random) -> Vec<Pair> {
         very_long(random),
         refused_key_line(random),
     ]);
+    // Behind all others, so that they and the random numbers that they draw stay as they are.
+    pairs.push(order_00(random));
     pairs
 }
 
@@ -87,4 +90,13 @@ fn refused_key_line(random: &mut Random) -> Pair {
         &[&line[..], b"\n", &line, b"\n\n00\n"].concat(),
         number,
     )
+}
+
+/// The inputs above may all have other orders. The tags are so long that those of two orders are not alike by chance,
+/// and the longest body fits with the longest tag.
+fn order_00(random: &mut Random) -> Pair {
+    let length = 40 + random.below(89) as u8;
+    let any = (0..30).map(|_| 1 + random.below(239));
+    let counts: Vec<usize> = [48, 49].into_iter().chain(any).collect();
+    frames_of_order_1_and_2(random, length, &counts).named("order 00")
 }

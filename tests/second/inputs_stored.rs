@@ -1,8 +1,8 @@
 //! The stored inputs of the program check, each under a name that says what it is.
 
 use crate::book::{frame_of, turned};
-use crate::inputs::{key_line, refused, right_frame, Input, Pair};
-use crate::library::tag_size;
+use crate::inputs::{key_line, refused, right_frame, with_order, Input, Pair};
+use crate::library::{read_key_line, tag_size};
 use crate::random::Random;
 use crate::writer::{write, ROOM};
 
@@ -41,6 +41,7 @@ pub fn all(random: &mut Random) -> Vec<Pair> {
     pairs.extend([4_096, 8_192, 65_536].map(|step| line_ends_around(random, step)));
     // Behind all others, so that they and the random numbers that they draw stay as they are.
     pairs.push(two_lines_for_one_body(random));
+    pairs.push(order_00(random));
     pairs
 }
 
@@ -49,6 +50,9 @@ fn key_lines(random: &mut Random) -> Vec<Pair> {
     let right = Input::new(random, 2, 64);
     let mut frame = right.clone();
     frame.frame(&right_frame(random, &right.keys), Some(0));
+    let [order_00, order_01] = order_00_and_01(random, 64);
+    let length_00 = Input::new(random, 3, 0).then_frames(random);
+    let [both_00, order_01_length_00] = order_00_and_01(random, 0);
     vec![
         Input::default().named("empty-input"),
         refused("one-line-feed", b"\n", 8),
@@ -56,12 +60,19 @@ fn key_lines(random: &mut Random) -> Vec<Pair> {
         right.clone().named("key-line-alone"),
         right.without_last_line_feed().named("key-line-alone-without-line-feed"),
         frame.without_last_line_feed().named("last-line-feed-missing"),
-        Input::new(random, 0, 64).then_frames(random).named("key-line-order-00"),
-        Input::new(random, 3, 0).then_frames(random).named("key-line-length-00"),
-        Input::new(random, 0, 0)
-            .then_frames(random)
-            .named("key-line-order-and-length-00"),
+        order_00.named("key-line-order-00"),
+        length_00.named("key-line-length-00"),
+        both_00.named("key-line-order-and-length-00"),
+        order_01.named("key-line-order-01-in-place-of-00"),
+        order_01_length_00.named("key-line-order-01-in-place-of-00-length-00"),
     ]
+}
+
+/// Under order 00, and under 01 in its place, with the same K, L and bodies. Whoever relied on 00 when it was taken as
+/// order 1 must say 01 since item 2 of the requests: the second input and its output are what the first were before.
+fn order_00_and_01(random: &mut Random, length: u8) -> [Input; 2] {
+    let mut again = Random(random.0);
+    [(0, random), (1, &mut again)].map(|(order, random)| Input::new(random, order, length).then_frames(random))
 }
 
 impl Input {
@@ -320,4 +331,24 @@ fn two_lines_for_one_body(random: &mut Random) -> Pair {
         input.frame(&turned(&frame, bit), Some(0));
     }
     input.named("two-lines-one-body-length-60")
+}
+
+/// Bodies around full blocks, up to 48 bytes and beyond.
+fn order_00(random: &mut Random) -> Pair {
+    let counts = [1, 16, 48, 49, 64, 65, 80, 81, 100, 200];
+    frames_of_order_1_and_2(random, 64, &counts).named("key-line-order-00-frames-of-order-1-and-2")
+}
+
+/// A key line with order 00, and each body in the frame of a sender of order 2, which is accepted, and in that of one
+/// of order 1. Up to 48 bytes the two are the same frame; beyond, the second is refused.
+pub fn frames_of_order_1_and_2(random: &mut Random, length: u8, counts: &[usize]) -> Input {
+    let line = key_line(random, 0, length);
+    let [one, two] = [1, 2].map(|order| read_key_line(&with_order(&line, order)).2);
+    let mut input = Input::with_key_line(&line);
+    for &count in counts {
+        let body = random.bytes(count);
+        input.frame(&frame_of(&two, &body), Some(0));
+        input.frame(&frame_of(&one, &body), Some(if count > 48 { 7 } else { 0 }));
+    }
+    input
 }

@@ -49,7 +49,7 @@ pub fn done(walk: Walk) -> Verdict {
     }
 }
 
-/// In a key set 0 is refused in either field.
+/// In a key set 0 is refused in either field: only the key call takes it as another number.
 pub fn wrong_order(keys: &KeySet) -> bool {
     !(1..=5).contains(&keys.order)
 }
@@ -70,14 +70,15 @@ fn write_tag(space: &mut [u8], tag: Block) {
         .for_each(|(place, byte)| *place = byte);
 }
 
-/// The key call takes order 0 as 1 and tag length 0 as 128. A refused one hands back zeros.
+/// The key call takes order 0 as 2 (item 2 of the requests, in place of the outline's 1) and tag length 0 as 128. A refused
+/// one hands back zeros.
 pub fn key_call(order: u64, length: u64, k: &[u8], l: &[u8]) -> (u8, u64, KeySet) {
     let judged = [(1, order > 5), (2, length > 128), (3, k.len() != 16 || l.len() != 16)];
     let number = first_refusal(&judged);
     if number != 0 {
         return (number, 0, KeySet::default());
     }
-    let order = if order == 0 { 1 } else { order as u8 };
+    let order = if order == 0 { 2 } else { order as u8 };
     let length = if length == 0 { 128 } else { length as u8 };
     let (steps, set) = keysch(order, length, left_aligned(k), left_aligned(l));
     (0, steps, set)

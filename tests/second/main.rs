@@ -27,6 +27,7 @@ mod questions_frames;
 mod questions_keys;
 mod questions_lines;
 mod questions_messages;
+mod questions_order;
 mod questions_spoilt;
 mod questions_streams;
 mod questions_writer;

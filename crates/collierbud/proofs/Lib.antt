@@ -1,3 +1,4 @@
 pub mod Answered
 pub mod Refuted
 pub mod Together
+pub mod Unsaid

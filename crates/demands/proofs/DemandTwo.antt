@@ -31,6 +31,7 @@ use Rattle.demands.proofs.KeySet.{made-meant, made-taken, made-tag}
 use Rattle.demands.proofs.Lines.{key-line-read, line-judged}
 use Rattle.demands.proofs.Numbers.{decided}
 use Rattle.demands.proofs.Shore.{shore-and-ship}
+use Rattle.demands.proofs.Unsaid.{order-unsaid-holds}
 
 -- a message, under a key set that the key call answers for K and L
 module _ {order size : ℕ} {K L M : List ℕ} {made : KeyAnswer} (m : Made order size K L made) (g : Message M) where
@@ -90,6 +91,7 @@ line-written {order} {size} {K} {L} M space after {made} w m some most room e =
 pub demand-2 : Demand2
 demand-2 = record {
   meant = λ order size K L made m. made-meant m;
+  order-unsaid = order-unsaid-holds;
   key-line-read = key-line-read;
   tag-made = λ order size K L M slice after made r m g h e. tag-made m g slice after r h e;
   tag-checked = λ order size K L M received made r m g h e. tag-checked m g received r h e;

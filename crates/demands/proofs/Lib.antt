@@ -9,5 +9,6 @@ pub mod Numbers
 pub mod Sent
 pub mod Shore
 pub mod TagBits
+pub mod Unsaid
 pub mod When
 pub mod Whole

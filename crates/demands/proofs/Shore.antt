@@ -225,7 +225,7 @@ module _ (key : List ℕ) {made : KeyAnswer} (e : ReadPromise key made) (z : mad
       ∙ sent-lines (made .keys) key-taken (lines rest)
 
 -- by what was written: of either program it is its output
-ran-output : {kind : ℕ} {out : List ℕ → List ℕ} {input text : List ℕ} → InParts kind out → Ran kind input text → text ≡ out input
+pub ran-output : {kind : ℕ} {out : List ℕ → List ℕ} {input text : List ℕ} → InParts kind out → Ran kind input text → text ≡ out input
 ran-output {kind} {out} parts r =
     r .told
     ∙ parts .joined-is (r .start) (r .end) (r .calls) (r .space) (r .after) (r .last) (r .begun) (r .stepped) (r .room) (r .finished)

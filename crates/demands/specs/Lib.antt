@@ -4,3 +4,4 @@ pub mod Shore
 pub mod Terms
 pub mod Three
 pub mod Two
+pub mod Unsaid

@@ -29,13 +29,16 @@ use Rattle.writer.specs.declared.Written.{Written}
 use Rattle.writer.specs.Promise.{WritePromise}
 use Rattle.demands.specs.Numbers.{Verdict}
 use Rattle.demands.specs.Shore.{ShoreAndShip}
+use Rattle.demands.specs.Unsaid.{OrderUnsaid}
 use Rattle.demands.specs.Terms.{Made, Message, Frame, bodyEnd, Genuine, frameFor, lineFor}
 
 -- all of it. The specification's d and p are those of the key set: made .keys .order and made .keys .bits
 pub record Demand2 : Type 0 where
-  -- every key set that the key call answers has the order and the tag length that were meant: 0 is order 1, and 128 bits
+  -- every key set that the key call answers has the order and the tag length that were meant: 0 is order 2, and 128 bits
   pub meant : (order bits : ℕ) (K L : List ℕ) (made : KeyAnswer) → Made order bits K L made
       → (made .keys .order ≡ resolvedOrder order) × (made .keys .bits ≡ resolvedTag bits)
+  -- so 0 answers as 2 does: to the key call, on a key line, and of check and send
+  pub order-unsaid : OrderUnsaid
   -- a key line of 68 digits has the key call's answer for what it says: a byte of order, one of tag length, K, L
   pub key-line-read : (line : List ℕ) (made : KeyAnswer) → length line ≡ 68 → isHex line ≡ true → ReadPromise line made
       → KeyCallPromise (getD (decoded line) 0 0) (getD (decoded line) 1 0) (take 16 (drop 2 (decoded line)))

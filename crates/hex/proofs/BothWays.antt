@@ -51,6 +51,23 @@ module _ (line : List ℕ) where
       let f = hex line e in
       made (f .digits (2 * i) (omega arith)) (f .digits (2 * i + 1) (omega arith)) ∙ sym (decoded-at i h)
 
+-- by its first pair: their byte, and then those of the others
+pub decoded-first : (a b : ℕ) (rest : List ℕ) → decoded (a ∷ b ∷ rest) ≡ (16 * valueOf a + valueOf b) ∷ decoded rest
+decoded-first a b rest =
+    let n : length (a ∷ b ∷ rest) / 2 ≡ suc (length rest / 2) = omega arith in
+    ext-getD 0 (decoded (a ∷ b ∷ rest)) ((16 * valueOf a + valueOf b) ∷ decoded rest)
+    (decoded-length (a ∷ b ∷ rest) ∙ n ∙ ap suc (sym (decoded-length rest)))
+    (λ i h. at i (rw (decoded-length (a ∷ b ∷ rest)) at h))
+  where
+    at : (i : ℕ) → i < length (a ∷ b ∷ rest) / 2
+        → getD (decoded (a ∷ b ∷ rest)) i 0 ≡ getD ((16 * valueOf a + valueOf b) ∷ decoded rest) i 0
+    at zero h = decoded-at (a ∷ b ∷ rest) 0 h
+    at (suc i) h =
+        let high : 2 * suc i ≡ suc (suc (2 * i)) = omega arith in
+        let low : suc (suc (2 * i)) + 1 ≡ suc (suc (2 * i + 1)) = omega arith in
+        let b′ : i < length rest / 2 = omega arith in
+        decoded-at (a ∷ b ∷ rest) (suc i) h ∙ rw (high, low) (sym (decoded-at rest i b′))
+
 -- two characters for each byte
 pub encoded-length : (bs : List ℕ) → length (encoded bs) ≡ 2 * length bs
 unfolding encoded

@@ -20,7 +20,7 @@ use Rattle.keys.specs.Answer.{keyNumber, setOf, doneKeys, keyAnswer}
 use Rattle.keys.specs.KeysIn.{keysIn}
 use Rattle.keys.proofs.Arrangement.{u-within, x-within}
 use Rattle.keys.proofs.Made.{placed-u, placed-x, placed-length, arranged-byte}
-use Rattle.keys.proofs.Number.{resolved-some, resolved-most, number-faultless}
+use Rattle.keys.proofs.Number.{order-within, number-faultless}
 
 module _ (d : ℕ) (K L : Block) where
   -- the bytes at a place are the block that was put there
@@ -79,7 +79,9 @@ pub key-steps : (order bits : ℕ) (K L : List ℕ) → keyNumber order bits (le
     → keyAnswer order bits K L .steps ≡ 4 * resolvedOrder order - 1
 unfolding keyAnswer doneKeys
 key-steps order bits K L h =
-    rw (eq-eqb (keyNumber order bits (length K) (length L)) 0 h) (keysch-steps (resolvedOrder order) K L (resolved-some order))
+    let fits = number-faultless order bits (length K) (length L) h .order-fits in
+    rw (eq-eqb (keyNumber order bits (length K) (length L)) 0 h)
+    (keysch-steps (resolvedOrder order) K L (order-within order fits .low))
 
 -- under the key set that the key call answers for K and L, Algorithm 2.2 takes the steps and makes the tag that it does under K and L
 pub key-taggen : (order bits : ℕ) (K L M : List ℕ) → keyNumber order bits (length K) (length L) ≡ 0
@@ -88,9 +90,9 @@ pub key-taggen : (order bits : ℕ) (K L M : List ℕ) → keyNumber order bits 
     ≡ taggen (keysOf (resolvedOrder order) K L) (resolvedOrder order) (resolvedTag bits) M
 unfolding keyAnswer doneKeys setOf
 key-taggen order bits K L M h =
-    let high = number-faultless order bits (length K) (length L) h .order-fits in
+    let fits = number-faultless order bits (length K) (length L) h .order-fits in
     rw (eq-eqb (keyNumber order bits (length K) (length L)) 0 h)
-    (in-taggen (resolvedOrder order) K L (resolvedTag bits) M (resolved-most order high))
+    (in-taggen (resolvedOrder order) K L (resolvedTag bits) M (order-within order fits .high))
 
 -- and so the tag is TAGGEN's of K and L
 pub key-tag : (order bits : ℕ) (K L M : List ℕ) → keyNumber order bits (length K) (length L) ≡ 0

@@ -1,4 +1,4 @@
--- The key call's number by cases, and what number 0 tells.
+-- The key call's number by cases, and what number 0 tells; what is meant by an order and a tag length, 0 among them.
 -- Assumes nothing.
 use mathlib.Core.Path.{_≡_, refl}
 use mathlib.Core.Bool.{Bool, true, false}
@@ -10,7 +10,8 @@ use lib.ListN.{length}
 use borrow.Author.Tests.{lt-ltb, le-ltb, ltb-false, eq-eqb, ne-eqb, eqb-true}
 use Rattle.laws.specs.Agree.{both}
 use Rattle.laws.specs.Pick.{pick}
-use Rattle.pcmac.specs.Limits.{resolved, resolvedOrder, resolvedTag}
+use Rattle.laws.proofs.UpTo.{Within}
+use Rattle.pcmac.specs.Limits.{highestOrder, defaultOrder, longestTag, defaultTag, resolved, resolvedOrder, resolvedTag}
 use Rattle.keys.specs.Answer.{keyNumber, doneKeys, refusedKeys, keyAnswer}
 
 module _ (order bits k l : ℕ) where
@@ -59,16 +60,28 @@ number-faultless order bits k l e = by (ltb 5 order) (ltb 128 bits) (eqb k 16) (
       l-size = eqb-true l 16 ed;
     }
 
--- the order that is meant is 1 to 5
-pub resolved-some : (order : ℕ) → 1 ≤ resolvedOrder order
+-- what is meant is within the bounds of what is given
+pub resolved-within : (otherwise most n : ℕ) → Within most otherwise → n ≤ most → Within most (resolved otherwise n)
 unfolding resolved
-resolved-some zero = omega arith
-resolved-some (suc n) = rw (ne-eqb (suc n) 0 (λ z. omega arith)) (omega arith)
+resolved-within otherwise most zero w h = w
+resolved-within otherwise most (suc n) w h = rw (ne-eqb (suc n) 0 (λ z. omega arith)) (record { low = omega arith; high = h })
 
-pub resolved-most : (order : ℕ) → order ≤ 5 → resolvedOrder order ≤ 5
-unfolding resolved
-resolved-most zero h = omega arith
-resolved-most (suc n) h = rw (ne-eqb (suc n) 0 (λ z. omega arith)) h
+-- so is what was answered for it, whichever number stands for none
+pub meant-within : {otherwise most n r : ℕ} → r ≡ resolved otherwise n → Within most otherwise → n ≤ most → Within most r
+meant-within {otherwise} {most} {n} e w h = rw e (resolved-within otherwise most n w h)
+
+-- the order that is meant is one that there is
+pub order-within : (order : ℕ) → order ≤ highestOrder → Within highestOrder (resolvedOrder order)
+order-within order h = resolved-within defaultOrder highestOrder order (record { low = omega arith; high = omega arith }) h
+
+-- and the tag length
+pub tag-within : (bits : ℕ) → bits ≤ longestTag → Within longestTag (resolvedTag bits)
+tag-within bits h = resolved-within defaultTag longestTag bits (record { low = omega arith; high = omega arith }) h
+
+-- WHERE NO ORDER IS SAID, the answer is that for the order which is then meant, refused or not
+pub order-unsaid : (bits : ℕ) (K L : List ℕ) → keyAnswer 0 bits K L ≡ keyAnswer defaultOrder bits K L
+unfolding keyAnswer keyNumber resolved
+order-unsaid bits K L = refl
 
 module _ (order bits : ℕ) (K L : List ℕ) where
   pub answer-refused : (keyNumber order bits (length K) (length L) ≡ 0 → ⊥)

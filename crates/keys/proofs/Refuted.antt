@@ -53,11 +53,11 @@ module _ (order bits : ℕ) (K L : List ℕ) (r : KeyAnswer) (low : order ≤ 5)
       ∙ sym
       (answer-done order bits K L (number-none order bits (length K) (length L) low fits k-size l-size) refl refl refl refl))
 
-  -- order 0 does not mean 2
-  pub order-zero-is-two : order ≡ 0 → r .keys .order ≡ 2 → ⊥
+  -- order 0 does not mean 1
+  pub order-zero-is-one : order ≡ 0 → r .keys .order ≡ 1 → ⊥
   unfolding setOf resolved
-  order-zero-is-two e h =
-      let z : r .keys .order ≡ 1 = ap (λ (k : KeySet). k .order) set-is ∙ ap resolvedOrder e in
+  order-zero-is-one e h =
+      let z : r .keys .order ≡ 2 = ap (λ (k : KeySet). k .order) set-is ∙ ap resolvedOrder e in
       omega arith
 
   -- the mask of a shorter last block is not L doubled once: of 80 and zeros, 87 at the end

@@ -21,7 +21,7 @@ use numbers::BAD_TAG_LENGTH;
 use numbers::DONE;
 
 // What the order and the tag length are where 0 is given, and their highest.
-const DEFAULT_ORDER: u8 = 1;
+const DEFAULT_ORDER: u8 = 2;
 
 const HIGHEST_ORDER: usize = 5;
 
@@ -138,7 +138,8 @@ fn done(order: u8, bits: u8, k: [u8; 16], l: [u8; 16]) -> KeyAnswer
     }
 }
 
-// The key call. Order 0 is read as 1, and tag length 0 as 128.
+// The key call. Order 0 is read as 2, and tag length 0 as 128. The key set has them so resolved: one
+// with 0 in either is refused by every later call.
 pub fn key_call<'a>(order: usize, bits: usize, k: &'a [u8], l: &'a [u8]) -> KeyAnswer
     ensures { λ r. ⌜ KeyCallPromise order bits (now (k .entry)) (now (l .entry)) r ⌝ }
 {

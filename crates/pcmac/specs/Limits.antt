@@ -8,9 +8,9 @@ use Rattle.laws.specs.Pick.{pick}
 abbrev pub highestOrder : ℕ
 highestOrder = 5
 
--- the order where none is given, a rule of this library
+-- the order where none is given, a rule of this library: the one that the newer units run
 abbrev pub defaultOrder : ℕ
-defaultOrder = 1
+defaultOrder = 2
 
 -- the longest tag, in bits: 2.3
 abbrev pub longestTag : ℕ

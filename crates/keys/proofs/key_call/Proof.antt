@@ -4,8 +4,9 @@ use mathlib.Core.Path.{_≡_, ap, _∙_}
 use native.Mathlib.Omega.{arith}
 use lib.ListN.{length}
 use Rattle.block.proofs.Sixteen.{sixteen-all}
+use Rattle.laws.proofs.UpTo.{Within}
 use Rattle.keys.specs.Answer.{keyNumber, refusedKeys}
-use Rattle.keys.proofs.Number.{number-faultless, answer-refused, answer-done, resolved-some, resolved-most}
+use Rattle.keys.proofs.Number.{number-faultless, answer-refused, answer-done, meant-within}
 use borrow.Author.Needs.{needs}
 use Rattle.keys.proofs.key_call.Statement.{statement}
 use Rattle.keys.proofs.key_call.Tie as tie
@@ -54,7 +55,9 @@ done-requires c κs =
     let a = c .before .before .before .before .before .before .before .before .args in
     let f = number-faultless _ _ _ _ (no-number (c .before .before .before .before)) in
     let m = c .before .before .before .meant .ensures in
-    (rw m (resolved-some (a .order)), rw m (resolved-most (a .order) (f .order-fits)))
+    let w : Within 5 (c .before .before .before .meant .result) =
+    meant-within m (record { low = omega arith; high = omega arith }) (f .order-fits) in
+    (w .low, w .high)
 
 returns-2 : tie.Need-returns-2
 returns-2 c =
