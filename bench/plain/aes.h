@@ -1,12 +1,14 @@
 /*
  * AES-128 encryption (FIPS 197) and the four-round function G of PC-MAC-AES, in plain C.
  *
- * The files of this folder are written for one purpose: bench/count counts their instructions beside those of the
- * proved programs. No proof and no program of the project rests on them. They have the shape of the proved code: one
- * table of 256 bytes, a state of 4x4 bytes, MixColumns by xtime; no tables of whole rounds, no intrinsics.
+ * The files of this folder are written to be counted and timed beside the proved programs (bench/count, bench/time),
+ * and as the control of bench/same. No proof and no program of the project rests on them. They have the shape of the
+ * proved code: one table of 256 bytes, a state of 4x4 bytes, MixColumns by xtime; no tables of whole rounds, no
+ * intrinsics.
  *
  * Everything is static inline, so that the compiler sees a program whole and may put any call into its caller. With
- * WORDS defined, MixColumns works on words of 32 bits.
+ * WORDS defined, MixColumns works on words of 32 bits; with LEAVES, a comparison of tags leaves at the first byte that
+ * differs (mac.h).
  */
 #ifndef PLAIN_AES_H
 #define PLAIN_AES_H

@@ -154,7 +154,15 @@ static inline enum number compare_tag(const struct keys *keys, struct chain *c, 
     memcpy(block, received, tag_size(keys));
     keep_bits(block, keys->bits);
     keep_bits(c->value, keys->bits);
+#ifdef LEAVES
+    /* the control of bench/same: leaves at the first byte that differs, and volatile keeps it so */
+    for (int i = 0; i < 16; i++)
+        if (((volatile uint8_t *)block)[i] != c->value[i])
+            return TAG_DIFFERS;
+    return DONE;
+#else
     return memcmp(block, c->value, 16) == 0 ? DONE : TAG_DIFFERS;
+#endif
 }
 
 static inline int all_zero(const uint8_t *bytes, size_t n)

@@ -1,5 +1,6 @@
 pub mod Answered
 pub mod Compared
+pub mod Difference
 pub mod Front
 pub mod Number
 pub mod Refuted

@@ -1,12 +1,12 @@
--- Wrong outcomes that the promises do not permit.
+-- Wrong outcomes that the promises, and the contract of the private function `differences`, do not permit.
 -- Assumes nothing.
 use mathlib.Core.Path.{_≡_, refl, ap, sym, _∙_}
 use mathlib.Core.Bool.{Bool, true, false}
 use mathlib.Core.Logic.{_⊎_, ⊎-elim}
-use mathlib.Core.List.{List}
+use mathlib.Core.List.{List, _∷_}
 use Prim.Native.Nat.{ℕ, _+_, _/_, _%_, _≤_, _<_}
 use native.Mathlib.Omega.{arith}
-use lib.ListN.{length, getD, take}
+use lib.ListN.{length, getD, take, replicate}
 use Rattle.laws.specs.Pick.{pick}
 use Rattle.laws.proofs.UpTo.{Within}
 use Rattle.block.specs.Bits.{bits, bytes}
@@ -16,6 +16,7 @@ use Rattle.pcmac.specs.Tagver.{accepted}
 use Rattle.pcmac.proofs.Tagver.{accepted-equal, equal-accepted}
 use Rattle.tag.specs.declared.TagAnswer.{TagAnswer}
 use Rattle.tag.specs.Answer.{taggedBy, refusedTag, checkedTag}
+use Rattle.tag.specs.Difference.{differences}
 use Rattle.tag.specs.Fault.{tagNumber}
 use Rattle.tag.specs.Tag.{tagBytes}
 use Rattle.tag.specs.Promise.{SizePromise, RefusedPromise, SizeFaultPromise, WritePromise, ComparePromise}
@@ -119,3 +120,9 @@ module _ (c : Chain) (p : ℕ) (received : List ℕ) (r : TagAnswer) (e : Compar
         by : (t : Bool) → accepted p (bits received) (cut p (c .value)) ≡ t → ⊥
         by true a = h (accepted-equal p (bits received) (cut p (c .value)) a)
         by false a = let n = number-by false a in omega arith
+
+-- `differences` does not hand back the first difference alone, as a loop that leaves there would: of tags that differ by 80 in their first
+-- byte and by 01 in their second, 81 and not 80
+pub first-difference-alone : (r : ℕ) → r ≡ 0x80 → r ≡ differences 16 (0x80 ∷ 0x01 ∷ replicate 14 0x00) (replicate 16 0x00) → ⊥
+unfolding differences
+first-difference-alone r h e = let z : r ≡ 0x81 = e in omega arith

@@ -1,6 +1,6 @@
 // A tag out of the chain after its closing step: the first p bits of the chain's value, as bytes in a
-// lent slice, or compared with those that were received. The spare low bits of a tag's last byte are
-// written as zeros, and are not looked at where a tag is checked.
+// lent slice, or compared with those that were received, over every byte (`differences`). The spare low
+// bits of a tag's last byte are written as zeros, and are not looked at where a tag is checked.
 //
 //     let n = tag::size(60);                            // 8 bytes
 //     let answer = tag::write(made, 60, &mut space);    // number 0, and the counts
@@ -11,8 +11,8 @@ ghost use Prim.Native.Nat.{_-_, _*_, _%_, _^_, _≤_};
 ghost use lib.ListN.{length, take};
 ghost use Rattle.block.specs.Bits.{bytes};
 ghost use Rattle.block.specs.Block.{cut, sixteen};
-ghost use Rattle.pcmac.specs.Tagver.{same};
 ghost use Rattle.tag.specs.Answer.{taggedBy, checkedTag};
+ghost use Rattle.tag.specs.Difference.{differences};
 ghost use Rattle.tag.specs.Fault.{tagNumber};
 ghost use Rattle.tag.specs.Promise.{SizePromise, RefusedPromise, SizeFaultPromise, WritePromise, ComparePromise};
 use chain::Chain;
@@ -20,6 +20,23 @@ use keys::LONGEST_TAG;
 use numbers::BAD_SIZE;
 use numbers::DONE;
 use numbers::TAG_DIFFERS;
+
+// In what two tags differ; a tag of fewer than 128 bits has zeros behind it (`kept`). Each of the sixteen
+// bytes is looked at, whatever those before it gave, and the bits in which it differs are gathered; what
+// was gathered is 0 exactly where the two are the same (`no-difference`, proofs/Difference.antt). A loop
+// that left at the first difference would take longer the more of a forged tag is right. Of time
+// nothing is proved: bench/same counts instructions. No other code in crates/ compares tags.
+fn differences(x: [u8; 16], y: [u8; 16]) -> u8
+    ensures { λ r. ⌜ r ≡ differences 16 x y ⌝ }
+{
+    let mut gathered: u8 = 0;
+    let mut at: usize = 0;
+    while at < 16 {
+        gathered |= x[at] ^ y[at];
+        at += 1;
+    }
+    gathered
+}
 
 // What a call that makes or checks a tag answers: its number, and the steps of each kind.
 pub struct TagAnswer {
@@ -119,20 +136,6 @@ fn put(x: [u8; 16], slice: &mut [u8])
     }
 }
 
-// Whether two blocks are the same. All sixteen bytes are looked at, whatever they are: the time that a
-// comparison takes should not say how much of a forged tag was right. (Nothing is proved of time.)
-fn equal(x: [u8; 16], y: [u8; 16]) -> bool
-    ensures { λ r. ⌜ r ≡ same x y ⌝ }
-{
-    let mut differing: u8 = 0;
-    let mut i: usize = 0;
-    while i < 16 {
-        differing |= x[i] ^ y[i];
-        i += 1;
-    }
-    differing == 0
-}
-
 // The tag into its slice: the first p bits of the chain's value after the closing step.
 pub fn write(made: Chain, bits: u8, slice: &mut [u8]) -> TagAnswer
     ensures { λ r. ⌜ WritePromise made bits (now (slice .entry)) r (now (slice .exit)) ⌝ }
@@ -156,9 +159,9 @@ fn verdict(made: Chain, bits: u8, received: [u8; 16]) -> TagAnswer
     ensures { λ r. ⌜ r ≡ checkedTag bits received (taggedBy bits made) ⌝ }
 {
     let value = made.value;
-    let alike = equal(kept(received, bits), kept(value, bits));
+    let differing = differences(kept(received, bits), kept(value, bits));
     TagAnswer {
-        number: if alike { DONE } else { TAG_DIFFERS },
+        number: if differing == 0 { DONE } else { TAG_DIFFERS },
         whole: made.whole,
         four: made.four,
     }
