@@ -24,8 +24,8 @@
  *   order    1 to 5; 0 is read as 2, which the newer units run. (Archives before landing 9 read 0 otherwise:
  *            CHANGELOG.md. 1 to 5 mean the same in all.)
  *   bits     the length of a tag in bits, 1 to 128; 0 is read as 128. A tag occupies (bits + 7) / 8 bytes,
- *            16 where bits is 0; the spare low bits of its last byte are written as zeros, and not looked
- *            at in a check
+ *            16 where bits is 0; the spare low bits of its last byte are written as zeros, and a received tag
+ *            with one of them set differs (so since landing 11: CHANGELOG.md)
  *   k, l     the keys K and L, 16 bytes each
  *   counts   where the steps are counted: counts[0] the whole-cipher steps, counts[1] the four-round
  *            steps. Those of the key set, which each call makes anew, are not among them
@@ -56,7 +56,7 @@ enum {
     COLLIERBUD_BAD_SIZE = 3,       /* K or L is not 16 bytes, counts has not just its places, or a tag not just its bytes */
     COLLIERBUD_TOO_LONG = 5,       /* the message is above 1,048,576 bytes */
     COLLIERBUD_NO_BYTES = 6,       /* the message is empty */
-    COLLIERBUD_TAG_DIFFERS = 7,    /* the tag is not that of the message */
+    COLLIERBUD_TAG_DIFFERS = 7,    /* the tag is not that of the message, or has a spare bit set */
     COLLIERBUD_BAD_LENGTH = 8      /* the frame is above 255 bytes, or has no body byte before its tag */
 };
 

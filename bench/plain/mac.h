@@ -147,12 +147,12 @@ static inline void write_tag(const struct keys *keys, struct chain *c, uint8_t *
     memcpy(tag, c->value, tag_size(keys));
 }
 
+/* The received tag as it is: a spare bit that is set differs as any other bit does. */
 static inline enum number compare_tag(const struct keys *keys, struct chain *c, const uint8_t *received)
 {
     uint8_t block[16] = {0};
 
     memcpy(block, received, tag_size(keys));
-    keep_bits(block, keys->bits);
     keep_bits(c->value, keys->bits);
 #ifdef LEAVES
     /* the control of bench/same: leaves at the first byte that differs, and volatile keeps it so */

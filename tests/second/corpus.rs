@@ -3,9 +3,10 @@
 use crate::book::{Book, Data};
 use crate::inputs::Pair;
 use crate::random::Random;
-use crate::{aes, bodies_fresh, bodies_run, bodies_stored, inputs_fresh, inputs_run, inputs_stored, pcmac, week};
-use crate::{questions_encode, questions_frames, questions_keys, questions_lines};
-use crate::{questions_messages, questions_order, questions_spoilt, questions_streams, questions_writer};
+use crate::{aes, bodies_fresh, bodies_run, bodies_stored, pcmac, week};
+use crate::{inputs_fresh, inputs_run, inputs_spare, inputs_stored};
+use crate::{questions_encode, questions_frames, questions_keys, questions_lines, questions_messages};
+use crate::{questions_order, questions_spare, questions_spoilt, questions_streams, questions_writer};
 use std::path::Path;
 use std::{fs, io};
 
@@ -42,6 +43,7 @@ fn book(seed: u64, dense: bool) -> Book {
     questions_encode::ask(&mut book);
     questions_writer::ask(&mut book);
     questions_order::ask(&mut book);
+    questions_spare::ask(&mut book);
     book
 }
 
@@ -65,12 +67,14 @@ pub fn stored(folder: &Path) -> io::Result<()> {
     let mut random = Random(STORED);
     let run = inputs_run::run(&mut random);
     write_pair(folder, "crates/checker/stdin", "crates/checker/stdout", &run)?;
-    write_inputs(folder, "tests/check", &inputs_stored::all(&mut random))?;
+    write_inputs(&folder.join("tests/check"), &inputs_stored::all(&mut random))?;
     let mut random = Random(SEND);
     let run = bodies_run::run(&mut random);
     write_pair(folder, "crates/sender/stdin", "crates/sender/stdout", &run)?;
-    write_inputs(folder, "tests/send", &bodies_stored::all(&mut random))?;
+    write_inputs(&folder.join("tests/send"), &bodies_stored::all(&mut random))?;
     write_pair(folder, "examples/week.txt", "examples/week.out", &week::week())?;
+    let week60 = week::week_of_60_bits();
+    write_pair(folder, "examples/week60.txt", "examples/week60.out", &week60)?;
     for (name, bytes) in week::week_sent() {
         write(folder, &format!("examples/week.{name}"), &bytes)?;
     }
@@ -79,9 +83,9 @@ pub fn stored(folder: &Path) -> io::Result<()> {
 }
 
 /// Each input and its output under its name.
-fn write_inputs(folder: &Path, place: &str, pairs: &[Pair]) -> io::Result<()> {
+fn write_inputs(folder: &Path, pairs: &[Pair]) -> io::Result<()> {
     for pair in pairs {
-        let name = format!("{place}/{}", pair.name);
+        let name = &pair.name;
         write_pair(folder, &format!("{name}.in"), &format!("{name}.out"), pair)?;
     }
     Ok(())
@@ -106,4 +110,10 @@ pub fn fresh(seed: u64, folder: &Path) -> io::Result<()> {
     write(folder, "probe.out", &book.answers)?;
     write_numbered(folder, "check", &inputs_fresh::all(&mut Random(!seed)))?;
     write_numbered(folder, "send", &bodies_fresh::all(&mut Random(!seed ^ SEND)))
+}
+
+/// An input of check for each tag length that has spare bits, numbered by the tag length.
+pub fn spare(folder: &Path) -> io::Result<()> {
+    hold_to_documents();
+    write_inputs(folder, &inputs_spare::every_length())
 }

@@ -1,6 +1,7 @@
 //! Fresh inputs of the program check, at random.
 
 use crate::inputs::{key_line, refused, Input, Pair};
+use crate::inputs_spare::among_others;
 use crate::inputs_stored::frames_of_order_1_and_2;
 use crate::library::tag_size;
 use crate::random::Random;
@@ -14,8 +15,9 @@ pub fn all(random: &mut Random) -> Vec<Pair> {
         very_long(random),
         refused_key_line(random),
     ]);
-    // Behind all others, so that they and the random numbers that they draw stay as they are.
+    // Each behind all before it, so that those and the random numbers that they draw stay as they are.
     pairs.push(order_00(random));
+    pairs.extend((0..3).map(|_| among_others(random)));
     pairs
 }
 

@@ -2,8 +2,10 @@
 
 use crate::book::{frame_of, turned};
 use crate::inputs::{key_line, refused, right_frame, with_order, Input, Pair};
+use crate::inputs_spare::refused_spellings;
 use crate::library::{read_key_line, tag_size};
 use crate::random::Random;
+use crate::spare::spellings;
 use crate::writer::{write, ROOM};
 
 pub fn all(random: &mut Random) -> Vec<Pair> {
@@ -39,9 +41,10 @@ pub fn all(random: &mut Random) -> Vec<Pair> {
         .flatten(),
     );
     pairs.extend([4_096, 8_192, 65_536].map(|step| line_ends_around(random, step)));
-    // Behind all others, so that they and the random numbers that they draw stay as they are.
-    pairs.push(two_lines_for_one_body(random));
+    // Each behind all before it, so that those and the random numbers that they draw stay as they are.
+    pairs.push(one_line_for_one_body(random));
     pairs.push(order_00(random));
+    pairs.extend([(3, 1), (5, 4), (4, 127)].map(|pair| spare_bits(random, pair)));
     pairs
 }
 
@@ -251,15 +254,13 @@ fn short_lines(random: &mut Random) -> Pair {
     input.named("short-lines")
 }
 
-/// A frame, then the same with each of its bits turned; the tag's spare bits are not looked at.
+/// A frame, then the same with each of its bits turned, the tag's spare bits too.
 fn every_bit_of_a_frame(random: &mut Random, order: u8, length: u8) -> Pair {
     let mut input = Input::new(random, order, length);
-    let body = random.bytes(23);
-    let frame = frame_of(&input.keys, &body);
+    let frame = frame_of(&input.keys, &random.bytes(23));
     input.frame(&frame, Some(0));
     for bit in 0..8 * frame.len() {
-        let spare = bit >= 8 * body.len() + usize::from(length);
-        input.frame(&turned(&frame, bit), Some(if spare { 0 } else { 7 }));
+        input.frame(&turned(&frame, bit), Some(7));
     }
     input.named(&format!("every-bit-of-a-frame-order-{order}-length-{length}"))
 }
@@ -315,22 +316,22 @@ fn line_ends_around(random: &mut Random, step: usize) -> Pair {
     input.named(&format!("line-ends-around-{step}"))
 }
 
-/// Two lines and more are accepted for one body where the tag has spare bits: the line that the writer gives, then the
-/// same with all four spare bits set, and with each of them. Only the stated bits are looked at. So an accepted line is
-/// the one that the writer gives for its body as long as the tag length is a multiple of 8, and 60 is none.
-fn two_lines_for_one_body(random: &mut Random) -> Pair {
+/// One line is accepted for one body, that which the writer gives; with spare bits of its tag set it is refused. So an
+/// accepted line is the one that the writer gives for its body, at every tag length (item 4 of the requests).
+fn one_line_for_one_body(random: &mut Random) -> Pair {
     let mut input = Input::new(random, 2, 60);
     let mut space = [0; ROOM];
     let (_, characters) = write(&input.keys, b"one body", &mut space);
     input.line(&space[..characters as usize], Some(0));
-    let frame = frame_of(&input.keys, b"one body");
-    let first = 8 * frame.len() - 4;
-    let all = (first..first + 4).fold(frame.clone(), |frame, bit| turned(&frame, bit));
-    input.frame(&all, Some(0));
-    for bit in first..first + 4 {
-        input.frame(&turned(&frame, bit), Some(0));
+    for spelling in spellings(60, &frame_of(&input.keys, b"one body")) {
+        input.frame(&spelling, Some(7));
     }
-    input.named("two-lines-one-body-length-60")
+    input.named("one-line-one-body-length-60")
+}
+
+/// Frames that are accepted, and one of them refused in every other spelling.
+fn spare_bits(random: &mut Random, (order, length): (u8, u8)) -> Pair {
+    refused_spellings(random, order, length).named(&format!("spare-bits-length-{length}"))
 }
 
 /// Bodies around full blocks, up to 48 bytes and beyond.

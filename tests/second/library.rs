@@ -63,15 +63,20 @@ pub fn tag_size(keys: &KeySet) -> usize {
     usize::from(keys.length).div_ceil(8)
 }
 
-fn write_tag(space: &mut [u8], tag: Block) {
+/// The tag as it is written: its spare bits are zero, as cut has left them.
+pub fn written_tag(keys: &KeySet, tag: Block) -> Vec<u8> {
+    tag.to_be_bytes().into_iter().take(tag_size(keys)).collect()
+}
+
+fn write_tag(keys: &KeySet, space: &mut [u8], tag: Block) {
     space
         .iter_mut()
-        .zip(tag.to_be_bytes())
+        .zip(written_tag(keys, tag))
         .for_each(|(place, byte)| *place = byte);
 }
 
-/// The key call takes order 0 as 2 (item 2 of the requests, in place of the outline's 1) and tag length 0 as 128. A refused
-/// one hands back zeros.
+/// The key call takes order 0 as 2 (item 2 of the requests, in place of the outline's 1) and tag length 0 as 128. A
+/// refused one hands back zeros.
 pub fn key_call(order: u64, length: u64, k: &[u8], l: &[u8]) -> (u8, u64, KeySet) {
     let judged = [(1, order > 5), (2, length > 128), (3, k.len() != 16 || l.len() != 16)];
     let number = first_refusal(&judged);
@@ -176,7 +181,7 @@ pub fn close(keys: &KeySet, stream: &Stream, space: &mut [u8]) -> Verdict {
         return refused(number);
     }
     let walk = finish(keys, walk_so_far(stream), &held(stream));
-    write_tag(space, walk.s);
+    write_tag(keys, space, walk.s);
     done(walk)
 }
 
@@ -211,7 +216,7 @@ pub fn tag(keys: &KeySet, message: &[u8], space: &mut [u8]) -> Verdict {
         return refused(number);
     }
     let walk = taggen(keys, message);
-    write_tag(space, walk.s);
+    write_tag(keys, space, walk.s);
     done(walk)
 }
 

@@ -18,8 +18,10 @@ mod inner;
 mod inputs;
 mod inputs_fresh;
 mod inputs_run;
+mod inputs_spare;
 mod inputs_stored;
 mod library;
+mod made;
 mod pcmac;
 mod probe;
 mod questions_encode;
@@ -28,11 +30,13 @@ mod questions_keys;
 mod questions_lines;
 mod questions_messages;
 mod questions_order;
+mod questions_spare;
 mod questions_spoilt;
 mod questions_streams;
 mod questions_writer;
 mod random;
 mod send;
+mod spare;
 mod week;
 mod writer;
 
@@ -44,6 +48,7 @@ const USAGE: &str = "usage:
     second answer probe|check|send   what probe, check or send must write for standard input
     second corpus DIR                the stored corpus, in the folders of the repository
     second fresh SEED DIR            a fresh set of questions and inputs, with their answers
+    second spare DIR                 inputs of check with spare bits set, at every tag length that has them
     second compare probe|check|send QUESTIONS ANSWERS SAID
                                      answers of the second program against those of a program
     second fault FILE DIR            puts a stored fault into a copy of the sources";
@@ -64,6 +69,7 @@ fn run(words: &[&str]) -> io::Result<()> {
             Ok(seed) => corpus::fresh(seed, Path::new(folder)),
             Err(_) => Err(io::Error::other("the seed is a number below 2^64")),
         },
+        ["spare", folder] => corpus::spare(Path::new(folder)),
         ["compare", program @ ("probe" | "check" | "send"), questions, answers, said] => {
             compare::compare(program, [questions, answers, said].map(Path::new))
         }

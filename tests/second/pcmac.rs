@@ -130,9 +130,12 @@ pub fn taggen(keys: &KeySet, message: &[u8]) -> Walk {
     finish(keys, walk, last)
 }
 
-/// Algorithm 2.3, TAGVER, from TAGGEN's tag on: only the first bits of what was received are compared.
+/// Algorithm 2.3, TAGVER, from TAGGEN's tag on: the stated bits of what was received, its first ones, are those of the
+/// tag, and the spare bits behind them are zero (item 4 of the requests, in place of the outline's rule).
 pub fn same_tag(keys: &KeySet, tag: Block, received: &[u8]) -> bool {
-    tag == cut(keys.length.into(), left_aligned(received))
+    let received = left_aligned(received);
+    let stated = cut(keys.length.into(), received);
+    stated == tag && received == stated
 }
 
 /// The outline's closed formulas, for the blocks before the last: ceil((m-1)/(d+1)) whole-cipher steps, and four-round

@@ -3,6 +3,7 @@
 use crate::book::{frame_of, turned, Book, Data};
 use crate::forms::{KeySet, Stream};
 use crate::library::tag_size;
+use crate::made::TABLE;
 
 pub fn ask(book: &mut Book) {
     every_bit(book);
@@ -12,8 +13,6 @@ pub fn ask(book: &mut Book) {
     faults_together(book);
     refused_pairs(book);
 }
-
-const TABLE: &[u8] = b"the table in force";
 
 /// The four calls that take a frame, all of them or one.
 fn give(book: &mut Book, keys: &KeySet, frame: &Data, expected: Option<u8>, all: bool) {
@@ -27,7 +26,8 @@ fn give(book: &mut Book, keys: &KeySet, frame: &Data, expected: Option<u8>, all:
     }
 }
 
-/// Every bit of a frame turned in turn. A turned bit of the body may leave a short tag as it is.
+/// Every bit of a frame turned in turn. One of the tag, stated or spare, is noticed at every length; one of the body
+/// may leave a short tag as it is.
 fn every_bit(book: &mut Book) {
     let stored = [(2, 60, 5), (5, 12, 7)];
     let fresh = [
@@ -44,11 +44,8 @@ fn every_bit(book: &mut Book) {
         let frame = frame_of(&keys, &body);
         give(book, &keys, &Data::of(&frame), Some(0), true);
         for bit in 0..8 * frame.len() {
-            let expected = match bit {
-                _ if bit >= 8 * count + length => Some(0),
-                _ if bit >= 8 * count || length >= 64 => Some(7),
-                _ => None,
-            };
+            let certain = bit >= 8 * count || length >= 64;
+            let expected = certain.then_some(7);
             give(book, &keys, &Data::of(&turned(&frame, bit)), expected, false);
         }
     }

@@ -3,6 +3,7 @@
 use crate::book::{lowest, tag_of, turned, Book, Data};
 use crate::forms::KeySet;
 use crate::library::tag_size;
+use crate::spare::all_set;
 
 pub fn ask(book: &mut Book) {
     every_pair(book);
@@ -117,7 +118,7 @@ fn made_up_key_sets(book: &mut Book) {
     }
 }
 
-/// Each bit of the received tag turned in turn: within the tag length it differs, a spare one is not looked at.
+/// Each bit of the received tag turned in turn, the spare ones too.
 fn every_bit_of_a_tag(book: &mut Book) {
     for length in book.pick(
         vec![3, 36],
@@ -128,12 +129,13 @@ fn every_bit_of_a_tag(book: &mut Book) {
         let message = book.message(40);
         let tag = tag_of(&keys, &message.bytes());
         for bit in 0..8 * tag.len() {
-            let expected = if bit < usize::from(length) { 7 } else { 0 };
-            book.verify(&keys, &message, &Data::of(&turned(&tag, bit)), Some(expected));
+            book.verify(&keys, &message, &Data::of(&turned(&tag, bit)), Some(7));
         }
     }
 }
 
+/// All spare bits set, with the stated bits right, and with the last or the first of them wrong. Where the tag length
+/// is a multiple of 8 there are no spare bits, and what is given first is the right tag.
 fn spare_bits_at_every_length(book: &mut Book) {
     for length in 1..=128 {
         if !book.dense && length % 11 != 0 {
@@ -142,9 +144,9 @@ fn spare_bits_at_every_length(book: &mut Book) {
         let keys = book.keys(1 + length % 5, length);
         let message = book.message(length);
         let tag = tag_of(&keys, &message.bytes());
-        let mut spare = tag.clone();
-        spare[(length - 1) / 8] |= (0xFFu16 >> ((length - 1) % 8 + 1)) as u8;
-        book.verify(&keys, &message, &Data::of(&spare), Some(0));
+        let spare = all_set(keys.length, &tag);
+        let expected = if length % 8 == 0 { 0 } else { 7 };
+        book.verify(&keys, &message, &Data::of(&spare), Some(expected));
         book.verify(&keys, &message, &Data::of(&turned(&spare, length - 1)), Some(7));
         book.verify(&keys, &message, &Data::of(&turned(&spare, 0)), Some(7));
     }

@@ -6,16 +6,13 @@
 //! standard library's formatting.
 
 use crate::book::{formatted, space_in_question, Book, Data};
-use crate::forms::{left_aligned, KeySet, Stream};
+use crate::forms::KeySet;
 use crate::hex;
 use crate::inner::hold;
-use crate::pcmac::{chain, partition, taggen, Walk};
-use crate::probe::CALLS;
+use crate::made::{check_by, tag, whole, Made, CHECKING};
 
 /// The longest message whose tag does not show the order, the first that does, and more around full blocks.
 const COUNTS: [usize; 6] = [48, 49, 64, 65, 100, 200];
-
-const TABLE: &[u8] = b"the table in force";
 
 /// The size of the writer's space.
 const ROOM: usize = 510;
@@ -54,65 +51,6 @@ fn key_sets(book: &mut Book, length: u8) -> [KeySet; 2] {
         format!("up to line {count}, order 0 is taken as order 2")
     });
     [zero, one].map(|answer| KeySet::from_bytes(&answer[9..]))
-}
-
-/// A message with what the calls take of it: the stream before its last part and behind it, and its tag.
-struct Made {
-    message: Vec<u8>,
-    part: Vec<u8>,
-    before: Stream,
-    behind: Stream,
-    tag: Vec<u8>,
-}
-
-impl Made {
-    /// A random message, cut somewhere.
-    fn new(book: &mut Book, keys: &KeySet, count: usize) -> Made {
-        let message = book.random.bytes(count);
-        let cut = 1 + book.random.below(count);
-        Made {
-            part: message[cut..].to_vec(),
-            before: stream(keys, &message[..cut]),
-            behind: stream(keys, &message),
-            tag: tag(keys, &message),
-            message,
-        }
-    }
-
-    fn frame(&self) -> Vec<u8> {
-        [&self.message[..], &self.tag].concat()
-    }
-
-    /// The number and the two counts of a tag or a check; where the key set is refused they are zeros.
-    fn verdict(&self, number: u8) -> Vec<u8> {
-        let counts = [self.behind.whole + 1, self.behind.four];
-        let counts = if number == 1 { [0, 0] } else { counts };
-        [vec![number], counts.map(u64::to_be_bytes).concat()].concat()
-    }
-}
-
-/// The stream of at least one byte.
-fn stream(keys: &KeySet, message: &[u8]) -> Stream {
-    let (blocks, last) = partition(message);
-    let start = Walk {
-        s: 0,
-        whole: 0,
-        four: 0,
-    };
-    let walk = chain(keys, 1, start, &blocks);
-    Stream {
-        total: message.len() as u64,
-        chain: walk.s,
-        held: left_aligned(last),
-        count: last.len() as u64,
-        whole: walk.whole,
-        four: walk.four,
-    }
-}
-
-fn tag(keys: &KeySet, message: &[u8]) -> Vec<u8> {
-    let size = usize::from(keys.length).div_ceil(8);
-    taggen(keys, message).s.to_be_bytes()[..size].to_vec()
 }
 
 /// Each later call under the set made at order 0. The tag of order 2 is right. That of order 1 differs from 49 bytes
@@ -169,32 +107,9 @@ fn making(book: &mut Book, keys: &KeySet, made: &Made, number: u8) {
     whole(book, 15, keys, &[message, room], &answer);
 }
 
-/// The calls that take a tag, or a frame with it. Opening a refused frame hands back no bytes, or the table.
+/// Every call that takes a received tag.
 fn checking(book: &mut Book, keys: &KeySet, made: &Made, number: u8) {
-    let [message, received, frame, table] =
-        [&made.message, &made.tag, &made.frame(), TABLE].map(|bytes: &[u8]| Data::of(bytes).in_question());
-    let verdict = made.verdict(number);
-    let (body, kept) = match number {
-        0 => (&made.message[..], &made.message[..]),
-        _ => (&[][..], TABLE),
-    };
-    let length = |bytes: &[u8]| (bytes.len() as u64).to_be_bytes().to_vec();
-    let checked = [verdict.clone()];
-    whole(book, 6, keys, &[made.behind.to_bytes(), received.clone()], &checked);
-    whole(book, 8, keys, &[message, received], &checked);
-    let both = [frame, table];
-    whole(book, 10, keys, &both[..1], &[verdict, length(body)]);
-    whole(book, 11, keys, &both[..1], &[length(body), body.to_vec()]);
-    for call in [12, 13] {
-        whole(book, call, keys, &both, &[length(kept), kept.to_vec()]);
+    for call in CHECKING {
+        check_by(book, call, keys, made, number);
     }
-}
-
-/// Asks, and holds the whole answer to the one that the question is made for.
-fn whole(book: &mut Book, call: u8, keys: &KeySet, fields: &[Vec<u8>], answer: &[Vec<u8>]) {
-    let said = book.ask(call, &[&[keys.to_bytes()], fields].concat(), None);
-    let (count, name) = (book.count, CALLS[usize::from(call)]);
-    hold(said == answer.concat(), || {
-        format!("line {count} ({name}) is made for another answer")
-    });
 }

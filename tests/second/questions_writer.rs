@@ -7,6 +7,7 @@ use crate::forms::KeySet;
 use crate::hex;
 use crate::probe::LINE;
 use crate::questions_lines::spoil;
+use crate::spare::all_set;
 
 pub fn ask(book: &mut Book) {
     orders_and_lengths(book);
@@ -298,18 +299,18 @@ fn there_and_back(book: &mut Book) {
     }
 }
 
-/// A frame is accepted, and its body is written: that gives the frame's line, but for the spare bits of the tag. They
-/// are set in the frame, where they are not looked at, and zero in the line. So a frame has one line only where the tag
-/// length is a multiple of 8.
+/// A frame is accepted, and its body is written: that gives the frame's line, whatever the tag length. With its spare
+/// bits set the frame is refused, so it is no second frame of that body.
 fn back_and_there(book: &mut Book) {
     for length in book.pick(vec![8, 57, 60, 127, 128], (1..=128).collect()) {
         let keys = book.keys(1 + length % 5, length);
         let count = 1 + book.random.below(longest(length));
         let body = book.random.bytes(count);
-        let mut frame = frame_of(&keys, &body);
-        let last = frame.len() - 1;
-        frame[last] |= 0xFFu8 >> ((length - 1) % 8) >> 1;
+        let frame = frame_of(&keys, &body);
         book.judge(&keys, &Data::of(&frame), Some(0));
+        if length % 8 != 0 {
+            book.judge(&keys, &Data::of(&all_set(keys.length, &frame)), Some(7));
+        }
         let space = large_enough(book);
         book.write(&keys, &Data::Written(body), space, 0);
     }

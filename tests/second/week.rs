@@ -4,6 +4,7 @@ use crate::bodies::Bodies;
 use crate::book::{frame_of, turned};
 use crate::inner::hold;
 use crate::inputs::{Input, Pair};
+use crate::spare::all_set;
 use crate::{check, hex};
 
 const BODIES: [&str; 7] = [
@@ -33,6 +34,20 @@ pub fn week() -> Pair {
         input.frame(&frame, Some(if damaged { 7 } else { 0 }));
     }
     input.named("week")
+}
+
+/// The same week under tags of 60 bits, with nothing damaged. Behind Tuesday's frame stands a relay's copy of it, with
+/// the four spare bits of the tag set. It is refused, or the unit would file one frame twice (item 4 of the requests).
+pub fn week_of_60_bits() -> Pair {
+    let mut input = Input::with_key_line(key_line(2, 60, 0x10, 0xA0).as_bytes());
+    for (day, body) in BODIES.iter().enumerate() {
+        let frame = frame_of(&input.keys, body.as_bytes());
+        input.frame(&frame, Some(0));
+        if day == 1 {
+            input.frame(&all_set(60, &frame), Some(7));
+        }
+    }
+    input.named("week60")
 }
 
 /// The same week as shore sends it, as files by the ends of their names: the key line, the bodies, the frames that send

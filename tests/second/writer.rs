@@ -1,7 +1,8 @@
 //! The line writer of item 1 of the requests: a body is written as a finished frame line.
 
 use crate::forms::KeySet;
-use crate::library::{done, encode, first_refusal, refused, tag_size, wrong_length, wrong_order, Verdict, FRAME};
+use crate::library::{done, encode, first_refusal, refused, tag_size, written_tag};
+use crate::library::{wrong_length, wrong_order, Verdict, FRAME};
 use crate::pcmac::taggen;
 
 /// The least bytes of a writing space: it has room for the longest line, however short the line is that is written. The
@@ -22,7 +23,7 @@ pub fn write(keys: &KeySet, body: &[u8], space: &mut [u8]) -> (Verdict, u64) {
         return (refused(number), 0);
     }
     let walk = taggen(keys, body);
-    let tag: Vec<u8> = walk.s.to_be_bytes().into_iter().take(tag_size(keys)).collect();
+    let tag = written_tag(keys, walk.s);
     let frame = [body, &tag].concat();
     let (_, characters) = encode(&frame, space);
     (done(walk), characters)

@@ -1,7 +1,7 @@
 -- Bytes to bits and back; what a shift of the bits does to the bytes.
 -- Assumes nothing.
-use mathlib.Core.Path.{_≡_, refl, ap, ap₂, _∙_}
-use mathlib.Core.List.{List, [], _∷_, _++_}
+use mathlib.Core.Path.{_≡_, refl, ap, ap₂, sym, _∙_}
+use mathlib.Core.List.{List, [], _∷_, _++_, append-nil}
 use Prim.Native.Nat.{ℕ, zero, suc, _+_, _*_, _/_, _%_, _^_, _<_}
 use native.Mathlib.Nat.{suc-add, not-suc-le-zero, le-of-suc-le-suc}
 use native.Mathlib.Omega.{arith}
@@ -21,6 +21,10 @@ pub bytes-bits : (m x : List ℕ) → Bytes m → bytes (bits m ++ x) ≡ m ++ b
 unfolding bits bytes binary
 bytes-bits [] x h = refl
 bytes-bits (b ∷ m) x h = ap₂ (λ (y : ℕ) (l : List ℕ). y ∷ l) (byte-value b (h 0 .fits)) (bytes-bits m x (λ j. h (suc j)))
+
+pub bytes-of-bits : (m : List ℕ) → Bytes m → bytes (bits m) ≡ m
+unfolding bytes
+bytes-of-bits m h = ap bytes (sym (append-nil (bits m))) ∙ bytes-bits m [] h ∙ append-nil m
 
 -- each byte moved up by one bit, with the top bit of the byte after it
 unfoldable pub moved : List ℕ → List ℕ

@@ -1,6 +1,7 @@
 pub mod Bits
 pub mod Block
 pub mod Blocks
+pub mod Digits
 pub mod Joined
 pub mod Padding
 pub mod Refuted

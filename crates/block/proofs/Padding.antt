@@ -2,7 +2,7 @@
 -- Assumes nothing.
 use mathlib.Core.Path.{_≡_, refl, ap, sym, _∙_}
 use mathlib.Core.Logic.{⊎-elim}
-use mathlib.Core.List.{List, [], _∷_, _++_, append-nil}
+use mathlib.Core.List.{List, [], _∷_, _++_}
 use Prim.Native.Nat.{ℕ, zero, suc, _-_, _*_, _≤_, _<_}
 use native.Mathlib.Nat.{eq-or-lt-of-le}
 use native.Mathlib.Omega.{arith}
@@ -12,7 +12,7 @@ use borrow.Author.Tests.{eq-eqb, ne-eqb}
 use Rattle.laws.proofs.Bytes.{Bytes, bytes-take}
 use Rattle.block.specs.Bits.{binary, bits, value, bytes}
 use Rattle.block.specs.Block.{pad, padded, sixteen}
-use Rattle.block.proofs.Bits.{bytes-bits, bytes-length}
+use Rattle.block.proofs.Bits.{bytes-bits, bytes-of-bits, bytes-length}
 use Rattle.block.proofs.Sixteen.{sixteen-short}
 
 -- eight bits to a byte
@@ -39,10 +39,10 @@ bytes-mark k =
 
 -- a full last block stays as it is
 pub padded-full : (m : List ℕ) → length m ≡ 16 → Bytes m → padded m ≡ m
-unfolding padded pad bytes
+unfolding padded pad
 padded-full m h b =
     let e : length (bits m) ≡ 128 = bits-length m ∙ omega arith in
-    rw (eq-eqb _ _ e) (ap bytes (sym (append-nil (bits m))) ∙ bytes-bits m [] b ∙ append-nil m)
+    rw (eq-eqb _ _ e) (bytes-of-bits m b)
 
 -- a shorter one gets 80 and then zeros to sixteen bytes
 pub padded-short : (m : List ℕ) → length m < 16 → Bytes m → padded m ≡ m ++ (0x80 ∷ replicate (15 - length m) 0)

@@ -1,6 +1,6 @@
 -- A list as sixteen bytes: cut where it is longer, filled with zeros where it is shorter; a block with a part behind it, byte by byte.
 -- Assumes nothing.
-use mathlib.Core.Path.{_≡_, ap, sym, _∙_}
+use mathlib.Core.Path.{_≡_, ap, ap₂, sym, _∙_}
 use mathlib.Core.List.{List, _++_}
 use Prim.Native.Nat.{ℕ, _+_, _-_, _≤_, _<_}
 use native.Mathlib.Omega.{arith}
@@ -34,6 +34,11 @@ sixteen-short x h = filled-short 16 x h
 pub sixteen-front : (x : List ℕ) → length x ≤ 16 → take (length x) (sixteen x) ≡ x
 unfolding sixteen
 sixteen-front x h = filled-front 16 x h
+
+-- so that of lists of one length it tells one from another
+pub sixteen-once : (x y : List ℕ) → length x ≡ length y → length y ≤ 16 → sixteen x ≡ sixteen y → x ≡ y
+sixteen-once x y n h e =
+    sym (sixteen-front x (omega arith)) ∙ ap₂ (λ (k : ℕ) (z : List ℕ). take k z) n e ∙ sixteen-front y h
 
 -- sixteen bytes that stand there
 pub sixteen-whole : (x : List ℕ) (at : ℕ) → at + 16 ≤ length x → sixteen (drop at x) ≡ take 16 (drop at x)

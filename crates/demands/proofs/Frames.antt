@@ -13,7 +13,6 @@ use Rattle.laws.specs.Pick.{pick}
 use Rattle.laws.proofs.Fault.{fault-found}
 use Rattle.block.specs.Bits.{bytes}
 use Rattle.pcmac.specs.Taggen.{TAGGEN}
-use Rattle.pcmac.proofs.Tagver.{accepted-equal, equal-accepted}
 use Rattle.keys.specs.declared.KeyAnswer.{KeyAnswer}
 use Rattle.keys.specs.declared.KeySet.{KeySet}
 use Rattle.keys.specs.SetNumber.{setNumber}
@@ -38,10 +37,10 @@ use Rattle.frame.proofs.Opened.{opened-accepted, opened-or-accepted, opened-at-
 use Rattle.answer.specs.Promise.{OfLinePromise}
 use Rattle.demands.specs.Numbers.{Verdict}
 use Rattle.demands.specs.Terms.{Made, Frame, bodyEnd, Genuine}
-use Rattle.demands.proofs.KeySet.{made-taken, made-tag}
+use Rattle.demands.proofs.KeySet.{made-taken}
 use Rattle.demands.proofs.Lines.{line-faulty, line-read}
 use Rattle.demands.proofs.Numbers.{decided}
-use Rattle.demands.proofs.TagBits.{taggen-length, taggen-back}
+use Rattle.demands.proofs.TagBits.{taggen-length, taggen-right, right-accepted}
 use Rattle.laws.proofs.Cases.{none-or-some}
 
 -- opening has an answer
@@ -125,9 +124,8 @@ module _ {order size : ℕ} {K L : List ℕ} {made : KeyAnswer} (m : Made order 
   frame-judged f r h e =
       let none = framed-none k (length f) (record { set = made-taken m; fits = h .most; some = h .some }) in
       let n : r .number ≡ pick (tagAccepted k f) 0 7 = number-is k f e ∙ checked k f none .number in
-      let tag = made-tag m (take (bodyEnd (k .bits) f) f) in
-      let both =
-      decided (tagAccepted k f) n (λ q. accepted-equal (k .bits) _ _ q ∙ tag) (λ q. equal-accepted (k .bits) _ _ (q ∙ sym tag)) in
+      let right = right-accepted m (take (bodyEnd (k .bits) f) f) (drop (bodyEnd (k .bits) f) f) in
+      let both = decided (tagAccepted k f) n (right .1) (right .0) in
       (both .0, both .1, body-is k f e)
 
   -- a body and its tag behind it
@@ -139,7 +137,7 @@ module _ {order size : ℕ} {K L : List ℕ} {made : KeyAnswer} (m : Made order 
       let size : length (M ++ T) ≡ length M + tagBytes p = length-append M T ∙ omega (arith, taggen-length m M) in
       let end : length M ≡ bodyEnd p (M ++ T) = omega arith in
       let genuine : Genuine (k .order) p K L (M ++ T) =
-      rw (← end, take-at M T (length M) refl, drop-at M T (length M) refl) (taggen-back m M) in
+      rw (← end, take-at M T (length M) refl, drop-at M T (length M) refl) (taggen-right m M) in
       let j = frame-judged (M ++ T) r (record { some = omega arith; most = omega arith }) e in
       let z = j .0 .1 genuine in
       (z, j .2 z ∙ sym end)

@@ -2,7 +2,7 @@
 -- Assumes nothing.
 use mathlib.Core.Path.{_≡_, refl, ap, ap₂, sym, _∙_}
 use mathlib.Core.Bool.{Bool, true, false}
-use mathlib.Core.Logic.{⊎-elim}
+use mathlib.Core.Logic.{⊎-elim, _↔_}
 use mathlib.Core.List.{List, [], _∷_, _++_, append-assoc}
 use Prim.Native.Nat.{ℕ, _%_, _≤_}
 use native.Mathlib.Omega.{arith}
@@ -13,7 +13,7 @@ use denote.Ref.{RefT, now}
 use Rattle.laws.specs.Fault.{unless}
 use Rattle.laws.specs.Pick.{pick}
 use Rattle.laws.proofs.Both.{both-holds}
-use Rattle.laws.proofs.Bytes.{Bytes}
+use Rattle.laws.proofs.Bytes.{Bytes, bytes-take}
 use Rattle.laws.proofs.Cases.{none-or-some}
 use Rattle.laws.proofs.Fault.{unless-holds, unless-none, none-of-two}
 use Rattle.keys.specs.declared.KeySet.{KeySet}
@@ -31,9 +31,9 @@ use Rattle.keyline.specs.Promise.{ReadPromise}
 use Rattle.frame.specs.declared.FrameAnswer.{FrameAnswer}
 use Rattle.frame.specs.Frame.{bodyOf, frameNumber, refusedFrame, frameAnswer}
 use Rattle.frame.specs.Open.{opened}
-use Rattle.frame.specs.Promise.{OpenPromise}
+use Rattle.frame.specs.Promise.{JudgePromise, OpenPromise}
 use Rattle.frame.proofs.Number.{frame-short}
-use Rattle.frame.proofs.Made.{answer-refused}
+use Rattle.frame.proofs.Made.{answer-refused, body-length}
 use Rattle.frame.proofs.Opened.{opened-accepted, front-is, number-is as judged-number}
 use Rattle.frame.proofs.Judged.{is-accepted, checked}
 use Rattle.lines.specs.Lines.{lineFeed, plain, lines}
@@ -45,7 +45,7 @@ use Rattle.writer.specs.declared.Written.{Written}
 use Rattle.writer.specs.Line.{frameOf, lineOf, doneWrite}
 use Rattle.writer.specs.Promise.{WritePromise}
 use Rattle.writer.proofs.Number.{Fits, writes-none}
-use Rattle.writer.proofs.Framed.{frame-body, frame-verdict, line-some, line-decodes, line-frame, body-fits, line-again}
+use Rattle.writer.proofs.Framed.{frame-body, frame-verdict, line-some, line-decodes, line-frame, frame-again, body-fits, line-again}
 use Rattle.writer.proofs.Told.{number-is, is-written}
 use Rattle.outgoing.specs.Text.{isSent, sentLine, sentText}
 use Rattle.outgoing.proofs.Sent.{sent-told}
@@ -54,6 +54,7 @@ use Rattle.session.specs.Session.{checkKind, sendKind}
 use Rattle.session.specs.Cut.{InParts}
 use Rattle.session.proofs.Cutting.{check-in-parts, send-in-parts}
 use Rattle.demands.specs.Shore.{arrival, arrivalText, Ran, ShoreAndShip}
+use Rattle.demands.specs.Terms.{Frame, bodyEnd}
 use Rattle.demands.proofs.KeySet.{made-taken}
 use Rattle.demands.proofs.Lines.{faulty-number, read as read-keys, line-read, line-faulty}
 
@@ -129,21 +130,52 @@ module _ (k : KeySet) (line : List ℕ) (v : FrameAnswer) (e : OfLinePromise k l
   zero : frameAnswer k (decoded line) .number ≡ 0
   zero = sym (judged-number k (decoded line) judged) ∙ z
 
-  accepted-written : (space after : List ℕ) (w : Written) → k .bits % 8 ≡ 0 → 510 ≤ length space
+  -- it is the line of its body
+  own-line : line ≡ lineOf k (take (v .body) (decoded line))
+  own-line = sym (ap (lineOf k) (front-is k (decoded line) judged z) ∙ line-again k line read zero)
+
+  accepted-written : (space after : List ℕ) (w : Written) → 510 ≤ length space
       → WritePromise k (take (v .body) (decoded line)) space w after
       → (w .number ≡ 0) × (take (w .written) after ≡ line) × (w .whole ≡ v .whole) × (w .four ≡ v .four)
   unfolding doneWrite
-  accepted-written space after w m room q =
+  accepted-written space after w room q =
       let body = bodyOf k (decoded line) in
       let p : WritePromise k body space w after = rw (front-is k (decoded line) judged z) at q in
       let none = number-is k body space p ∙ writes-none k (length space) (length body) room (body-fits k line read zero) in
       let t = is-written k body space p none in
       let c = checked k (decoded line) (is-accepted k (decoded line) zero .none) in (
         none,
-        t .line ∙ line-again k line read zero m,
+        t .line ∙ line-again k line read zero,
         ap (λ (x : Written). x .whole) (t .answer) ∙ sym (c .whole) ∙ ap (λ (x : FrameAnswer). x .whole) (sym judged),
         ap (λ (x : Written). x .four) (t .answer) ∙ sym (c .four) ∙ ap (λ (x : FrameAnswer). x .four) (sym judged),
       )
+
+-- ONE SPELLING
+one-line : (k : KeySet) (line line′ : List ℕ) (v v′ : FrameAnswer) → OfLinePromise k line v → OfLinePromise k line′ v′ → v .number ≡ 0
+    → v′ .number ≡ 0 → take (v .body) (decoded line) ≡ take (v′ .body) (decoded line′) → line ≡ line′
+one-line k line line′ v v′ e e′ z z′ q = own-line k line v e z ∙ ap (lineOf k) q ∙ sym (own-line k line′ v′ e′ z′)
+
+own-frame : (k : KeySet) (f : List ℕ) (v : FrameAnswer) → Bytes f → JudgePromise k f v → v .number ≡ 0 → f ≡ frameOf k (take (v .body) f)
+own-frame k f v h e z = sym (ap (frameOf k) (front-is k f e z) ∙ frame-again k f h (sym (judged-number k f e) ∙ z))
+
+one-frame : (k : KeySet) (f f′ : List ℕ) (v v′ : FrameAnswer) → Bytes f → Bytes f′ → JudgePromise k f v → JudgePromise k f′ v′
+    → v .number ≡ 0 → v′ .number ≡ 0 → take (v .body) f ≡ take (v′ .body) f′ → f ≡ f′
+one-frame k f f′ v v′ h h′ e e′ z z′ q = own-frame k f v h e z ∙ ap (frameOf k) q ∙ sym (own-frame k f′ v′ h′ e′ z′)
+
+-- a line that says a frame is accepted just where it is the line of its body
+pub line-own : (k : KeySet) (line : List ℕ) (r : FrameAnswer) → Taken k → Frame (k .bits) (decoded line) → decodeNumber 255 line ≡ 0
+    → OfLinePromise k line r → (r .number ≡ 0) ↔ (line ≡ lineOf k (bodyOf k (decoded line)))
+unfolding bodyOf
+line-own k line r set h read e =
+    let g = decoded line in
+    let body = bodyOf k g in
+    let n = body-length k g in
+    let fits : Fits k (length body) = record { set = set; some = omega (arith, n, h .some); most = omega (arith, n, h .some, h .most) } in (
+      λ z. sym (line-again k line read (zero k line r e z)),
+      λ q.
+          ap (λ (x : FrameAnswer). x .number)
+          (e ∙ ap (lineAnswer k) q ∙ line-verdict k body fits (bytes-take (bodyEnd (k .bits) g) g (decoded-bytes line))),
+    )
 
 -- an empty line decodes to no bytes
 empty-read : decodeNumber 255 [] ≡ 0
@@ -245,7 +277,11 @@ shore-and-ship = record {
   written-opened =
       λ k body space after w frame o h p z e q.
       written-opened k body space after w (λ j. record { fits = h j }) p z frame o e q;
-  accepted-written = λ k line space after w v m e z room q. accepted-written k line v e z space after w m room q;
+  accepted-written = λ k line space after w v e z room q. accepted-written k line v e z space after w room q;
+  one-line = one-line;
+  one-frame =
+      λ k f f′ v v′ h h′ e e′ z z′ q.
+      one-frame k f f′ v v′ (λ j. record { fits = h j }) (λ j. record { fits = h′ j }) e e′ z z′ q;
   sent-checked = λ key rest made e z. sent-checked key e z rest;
   ran-sent-checked = ran-sent-checked;
 }

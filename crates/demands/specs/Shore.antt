@@ -1,10 +1,10 @@
 -- SHORE AND SHIP. What the writer writes check accepts, with the same body; a line that check accepts is the one that the writer gives for
--- its body, as long as the tag length is a multiple of 8: under every key set, so under each that the key call answers. And what send
--- writes check answers line by line, a frame line with 0 and an empty one with 8: under the key set of every key line that is accepted.
+-- its body, so that no two of them have one body: under every key set, so under each that the key call answers. And what send writes check
+-- answers line by line, a frame line with 0 and an empty one with 8: under the key set of every key line that is accepted.
 -- Assumes nothing.
 use mathlib.Core.Path.{_≡_}
 use mathlib.Core.List.{List, _∷_, _++_}
-use Prim.Native.Nat.{ℕ, _%_, _≤_}
+use Prim.Native.Nat.{ℕ, _≤_}
 use lib.Dec.{eqb}
 use lib.ListN.{length, take}
 use denote.Ref.{RefT, now}
@@ -16,7 +16,7 @@ use Rattle.hex.specs.Line.{decoded}
 use Rattle.keyline.specs.Promise.{ReadPromise}
 use Rattle.frame.specs.declared.FrameAnswer.{FrameAnswer}
 use Rattle.frame.specs.Frame.{refusedFrame}
-use Rattle.frame.specs.Promise.{OpenPromise}
+use Rattle.frame.specs.Promise.{JudgePromise, OpenPromise}
 use Rattle.lines.specs.Lines.{lineFeed, lines}
 use Rattle.answer.specs.Text.{textOf}
 use Rattle.answer.specs.Promise.{OfLinePromise}
@@ -73,11 +73,16 @@ pub record ShoreAndShip : Type 0 where
   pub written-opened : (keys : KeySet) (body space after : List ℕ) (w : Written) (frame o : RefT (List ℕ)) → Octets body
       → WritePromise keys body space w after → w .number ≡ 0 → now frame ≡ decoded (take (w .written) after) → OpenPromise keys frame o
       → now o ≡ body
-  -- CONVERSE. Where a line is accepted, and the tag length is a multiple of 8, the writer gives for its body just that line, with the
-  -- verdict's counts
-  pub accepted-written : (keys : KeySet) (line space after : List ℕ) (w : Written) (v : FrameAnswer) → keys .bits % 8 ≡ 0
-      → OfLinePromise keys line v → v .number ≡ 0 → 510 ≤ length space → WritePromise keys (take (v .body) (decoded line)) space w after
+  -- CONVERSE. Where a line is accepted, the writer gives for its body just that line, with the verdict's counts: at every tag length
+  pub accepted-written : (keys : KeySet) (line space after : List ℕ) (w : Written) (v : FrameAnswer) → OfLinePromise keys line v
+      → v .number ≡ 0 → 510 ≤ length space → WritePromise keys (take (v .body) (decoded line)) space w after
       → (w .number ≡ 0) × (take (w .written) after ≡ line) × (w .whole ≡ v .whole) × (w .four ≡ v .four)
+  -- ONE SPELLING. Lines that are accepted under one key set, and have the same body, are the same line
+  pub one-line : (keys : KeySet) (line line′ : List ℕ) (v v′ : FrameAnswer) → OfLinePromise keys line v → OfLinePromise keys line′ v′
+      → v .number ≡ 0 → v′ .number ≡ 0 → take (v .body) (decoded line) ≡ take (v′ .body) (decoded line′) → line ≡ line′
+  -- and so are frames
+  pub one-frame : (keys : KeySet) (f f′ : List ℕ) (v v′ : FrameAnswer) → Octets f → Octets f′ → JudgePromise keys f v
+      → JudgePromise keys f′ v′ → v .number ≡ 0 → v′ .number ≡ 0 → take (v .body) f ≡ take (v′ .body) f′ → f ≡ f′
   -- THE TWO PROGRAMS. Whatever send is given behind a key line that is accepted: check, given that key line and then what send wrote,
   -- answers each line of it, in order. By their outputs
   pub sent-checked : (key rest : List ℕ) (made : KeyAnswer) → ReadPromise key made → made .number ≡ 0

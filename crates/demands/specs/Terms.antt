@@ -3,9 +3,10 @@
 use mathlib.Core.Path.{_≡_}
 use mathlib.Core.List.{List, [], _∷_, _++_}
 use Prim.Native.Nat.{ℕ, _-_, _≤_, _<_}
-use lib.ListN.{length, getD, take, drop}
+use lib.ListN.{length, getD, take, drop, replicate}
 use Rattle.block.specs.Bits.{bits, bytes}
 use Rattle.pcmac.specs.Taggen.{TAGGEN}
+use Rattle.pcmac.specs.Tagver.{TAGVER}
 use Rattle.keys.specs.declared.KeySet.{KeySet}
 use Rattle.keys.specs.declared.KeyAnswer.{KeyAnswer}
 use Rattle.keys.specs.Promise.{KeyCallPromise}
@@ -34,9 +35,14 @@ pub record Frame (p : ℕ) (f : List ℕ) : Type 0 where
 abbrev pub bodyEnd : ℕ → List ℕ → ℕ
 bodyEnd p f = length f - tagBytes p
 
--- the frame's tag is its body's: the first p bits behind the body are those that TAGGEN gives for the body
+-- a received tag is right for M: TAGVER gives 1 for its first p bits, those that are stated, and the spare ones behind them are zero
+pub record Right (d p : ℕ) (K L M received : List ℕ) : Type 0 where
+  pub stated : TAGVER d p K L M (take p (bits received)) ≡ 1
+  pub spare : drop p (bits received) ≡ replicate (length (bits received) - p) 0
+
+-- a frame is genuine: the tag behind its body is right for the body
 abbrev pub Genuine : ℕ → ℕ → List ℕ → List ℕ → List ℕ → Type 0
-Genuine d p K L f = take p (bits (drop (bodyEnd p f) f)) ≡ TAGGEN d p K L (take (bodyEnd p f) f)
+Genuine d p K L f = Right d p K L (take (bodyEnd p f) f) (drop (bodyEnd p f) f)
 
 -- the frame of a body: the body, and behind it the bytes of the tag that TAGGEN gives for it
 abbrev pub frameFor : ℕ → ℕ → List ℕ → List ℕ → List ℕ → List ℕ

@@ -14,6 +14,7 @@ use Rattle.block.specs.Bits.{bits}
 use Rattle.pcmac.specs.Tagver.{accepted}
 use Rattle.keys.specs.declared.KeySet.{KeySet}
 use Rattle.tag.specs.Answer.{checkedTag}
+use Rattle.tag.proofs.Told.{verdict-holds}
 use Rattle.message.specs.Answer.{tagged}
 use Rattle.frame.specs.declared.FrameAnswer.{FrameAnswer}
 use Rattle.frame.specs.Frame.{bodyLength, bodyOf, tagOf, frameNumber, refusedFrame, checkedFrame, frameAnswer}
@@ -83,10 +84,6 @@ pub record Accepted (k : KeySet) (f : List ℕ) : Type 0 where
   pub body : frameAnswer k f .body ≡ bodyLength k f
 
 -- a choice between 0 and 7
-pick-none : (t : Bool) → pick {A = ℕ} t 0 7 ≡ 0 → t ≡ true
-pick-none true e = refl
-pick-none false e = absurd (omega arith)
-
 pick-seven : (t : Bool) → pick {A = ℕ} t 0 7 ≡ 7 → t ≡ false
 pick-seven true e = absurd (omega arith)
 pick-seven false e = refl
@@ -102,7 +99,7 @@ module _ (k : KeySet) (f : List ℕ) where
     where
       by : Checked k f (tagAccepted k f) → Accepted k f
       by c =
-          let t = pick-none (tagAccepted k f) (sym (c .number) ∙ e) in
+          let t = verdict-holds (tagAccepted k f) (sym (c .number) ∙ e) in
           record { none = c .none; tag = t; body = checked-by k f true t (c .none) .body }
 
   -- number 7 tells that the tag differs, and is what a frame has whose tag differs

@@ -6,18 +6,21 @@ use mathlib.Core.Bool.{Bool, true, false}
 use mathlib.Core.List.{List, []}
 use Prim.Native.Nat.{ℕ, _+_, _≤_, _<_}
 use native.Mathlib.Omega.{arith}
-use lib.ListN.{length}
+use lib.ListN.{length, getD}
 use denote.Ref.{RefT, now, ptr}
 use Rattle.laws.proofs.Cases.{none-or-some}
 use Rattle.laws.specs.Pick.{pick}
+use Rattle.block.specs.Bits.{bits}
 use Rattle.pcmac.specs.Taggen.{taggen, sealed}
+use Rattle.pcmac.proofs.Tagver.{spare-set}
 use Rattle.keys.specs.declared.KeySet.{KeySet}
 use Rattle.keys.specs.SetNumber.{setNumber}
 use Rattle.keys.proofs.SetNumber.{set-order}
 use Rattle.tag.specs.Tag.{tagBytes}
+use Rattle.tag.proofs.Tagged.{cut-within}
 use Rattle.message.specs.Answer.{tagged}
 use Rattle.frame.specs.declared.FrameAnswer.{FrameAnswer}
-use Rattle.frame.specs.Frame.{bodyLength, bodyOf, frameNumber, refusedFrame, frameAnswer}
+use Rattle.frame.specs.Frame.{bodyLength, bodyOf, tagOf, frameNumber, refusedFrame, frameAnswer}
 use Rattle.frame.specs.Promise.{RefusedPromise, JudgePromise, OpenPromise, OpenOrPromise}
 use Rattle.frame.proofs.Number.{frame-set, frame-none, framed}
 use Rattle.frame.proofs.Made.{body-length}
@@ -63,6 +66,13 @@ module _ (k : KeySet) (f : List ℕ) (r : FrameAnswer) (p : JudgePromise k f r) 
       let n = sym (number-is k f p) ∙ z in
       let m = differing-is k f (is-accepted k f n .none) t in
       omega arith
+
+  -- or although a spare bit of the tag is set: one of them, or all
+  pub spare-bit-judged : (i : ℕ) → k .bits ≤ i → getD (bits (tagOf k f)) i 0 ≡ 1 → r .number ≡ 0 → ⊥
+  unfolding tagged taggen sealed
+  spare-bit-judged i h one z =
+      let t = is-accepted k f (sym (number-is k f p) ∙ z) .tag in
+      spare-set (k .bits) (bits (tagOf k f)) (tagged k (bodyOf k f) .tag) t (cut-within (k .bits) _) i h one
 
   -- a body that has the tag's first byte too, or all of them, or is another
   pub tag-byte-in-the-body : r .number ≡ 0 → (r .body ≡ bodyLength k f → ⊥) → ⊥

@@ -1,6 +1,5 @@
 -- Lists whose entries are bytes.
 -- Assumes nothing.
-use mathlib.Core.Path.{subst, sym}
 use mathlib.Core.Logic.{⊎-elim}
 use mathlib.Core.List.{List}
 use Prim.Native.Nat.{ℕ, _≤_, _<_}
@@ -15,14 +14,18 @@ use Rattle.laws.proofs.Cases.{below-or-not}
 abbrev pub Bytes : List ℕ → Type 0
 Bytes p = (j : ℕ) → Fits w8 (getD p j 0)
 
--- and so are those of its front
-pub bytes-take : (n : ℕ) (p : List ℕ) → Bytes p → Bytes (take n p)
-bytes-take n p b j = ⊎-elim front behind (below-or-not j n)
+-- where each entry of a list is below a number, so is each of its front
+pub take-below : (n b : ℕ) (p : List ℕ) → 0 < b → ((j : ℕ) → getD p j 0 < b) → (j : ℕ) → getD (take n p) j 0 < b
+take-below n b p some h j = ⊎-elim front behind (below-or-not j n)
   where
-    front : j < n → Fits w8 (getD (take n p) j 0)
-    front l = subst (λ (x : ℕ). Fits w8 x) (sym (getD-take n p j 0 l)) (b j)
+    front : j < n → getD (take n p) j 0 < b
+    front l = rw (getD-take n p j 0 l) (h j)
 
-    behind : n ≤ j → Fits w8 (getD (take n p) j 0)
+    behind : n ≤ j → getD (take n p) j 0 < b
     behind l =
-        let h : length (take n p) ≤ j = simp length-take (omega arith) in
-        subst (λ (x : ℕ). Fits w8 x) (sym (List·getD-eq-default (take n p) 0 h)) (record { fits = omega arith })
+        let k : length (take n p) ≤ j = simp length-take (omega arith) in
+        omega (arith, List·getD-eq-default (take n p) 0 k)
+
+-- so the front of bytes is bytes
+pub bytes-take : (n : ℕ) (p : List ℕ) → Bytes p → Bytes (take n p)
+bytes-take n p b j = record { fits = take-below n 256 p (omega arith) (λ i. b i .fits) j }

@@ -1,25 +1,21 @@
 -- A list at another length: cut where it is longer, filled with zeros where it is shorter.
 -- Assumes nothing.
-use mathlib.Core.Path.{_≡_, ap, sym, _∙_}
-use mathlib.Core.Logic.{⊎-elim}
-use mathlib.Core.List.{List, _++_}
-use Prim.Native.Nat.{ℕ, _+_, _-_, _≤_, _<_}
+use mathlib.Core.Path.{_≡_, refl, ap, sym, _∙_}
+use mathlib.Core.List.{List, [], _∷_, _++_}
+use Prim.Native.Nat.{ℕ, zero, suc, _-_, _≤_, _<_}
 use native.Mathlib.Omega.{arith}
-use lib.ListN.{length, getD, take, replicate, length-append, length-replicate, getD-replicate, List·getD-append, List·getD-eq-default}
-use lib.Seq.{ext-getD, length-take-le, getD-take, getD-append-add, take-all, take-append-seam}
+use lib.ListN.{length, getD, take, replicate, length-append, length-replicate}
+use lib.Seq.{ext-getD, length-take-le, getD-take, take-all, take-append-seam}
 use Rattle.laws.specs.Filled.{filled}
 use Rattle.laws.proofs.Agree.{table-length, table-at}
-use Rattle.laws.proofs.Cases.{below-or-not}
 
 -- a list with zeros behind it reads as it did
-zeros-behind : (x : List ℕ) (n j : ℕ) → j < length x + n → getD (x ++ replicate n 0) j 0 ≡ getD x j 0
-zeros-behind x n j h = ⊎-elim (λ a. List·getD-append x (replicate n 0) 0 j a) (λ a. beyond a) (below-or-not j (length x))
-  where
-    beyond : length x ≤ j → getD (x ++ replicate n 0) j 0 ≡ getD x j 0
-    beyond a =
-        let e : length x + (j - length x) ≡ j = omega arith in
-        ap (λ (i : ℕ). getD (x ++ replicate n 0) i 0) (sym e) ∙ getD-append-add x (replicate n 0) (j - length x) 0
-        ∙ getD-replicate n (j - length x) 0 0 (omega arith) ∙ sym (List·getD-eq-default x 0 a)
+pub zeros-behind : (x : List ℕ) (n j : ℕ) → getD (x ++ replicate n 0) j 0 ≡ getD x j 0
+zeros-behind [] zero j = refl
+zeros-behind [] (suc n) zero = refl
+zeros-behind [] (suc n) (suc j) = zeros-behind [] n j
+zeros-behind (b ∷ x) n zero = refl
+zeros-behind (b ∷ x) n (suc j) = zeros-behind x n j
 
 module _ (n : ℕ) (x : List ℕ) where
   pub filled-length : length (filled n x) ≡ n
@@ -44,7 +40,7 @@ module _ (n : ℕ) (x : List ℕ) where
   filled-short h =
       let z : length (replicate {A = ℕ} (n - length x) 0) ≡ n - length x = length-replicate (n - length x) 0 in
       filled-by (x ++ replicate (n - length x) 0) (length-append x (replicate (n - length x) 0) ∙ omega arith)
-      (λ j b. zeros-behind x (n - length x) j (omega arith))
+      (λ j b. zeros-behind x (n - length x) j)
 
   -- and stands at the front of what it is filled up to
   pub filled-front : length x ≤ n → take (length x) (filled n x) ≡ x

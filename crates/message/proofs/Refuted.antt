@@ -1,18 +1,21 @@
 -- Wrong outcomes that the promises do not permit.
 -- Assumes nothing.
 use mathlib.Core.Path.{_≡_, ap, sym, _∙_}
-use mathlib.Core.List.{List}
-use Prim.Native.Nat.{ℕ, _<_}
+use mathlib.Core.List.{List, _++_}
+use Prim.Native.Nat.{ℕ, _-_, _≤_, _<_}
 use native.Mathlib.Omega.{arith}
-use lib.ListN.{length, take}
+use lib.ListN.{length, getD, replicate}
 use Rattle.block.specs.Bits.{bits}
 use Rattle.pcmac.specs.Limits.{messageLimit}
+use Rattle.pcmac.specs.Taggen.{sealed, taggen}
+use Rattle.pcmac.proofs.Tagver.{accepted-equal, spare-set}
 use Rattle.keys.specs.declared.KeySet.{KeySet}
 use Rattle.keys.specs.SetNumber.{setNumber}
 use Rattle.tag.specs.declared.TagAnswer.{TagAnswer}
 use Rattle.tag.specs.Tag.{tagBytes}
 use Rattle.tag.proofs.Answered.{making-number}
-use Rattle.tag.proofs.Told.{making-leaves, checked-fault, checked-bits}
+use Rattle.tag.proofs.Tagged.{cut-within}
+use Rattle.tag.proofs.Told.{making-leaves, checked-fault, checked-accepted}
 use Rattle.message.specs.Answer.{messageNumber, tagged}
 use Rattle.message.specs.Promise.{TagPromise, VerifyPromise}
 use Rattle.message.proofs.Number.{tags, other-slice}
@@ -47,5 +50,15 @@ other-size-verified k M received r h e z =
 
 -- a check that accepts other bits than the tag's: fewer of them compared, as many as the order is, or from the second byte on
 pub other-tag-verified : (k : KeySet) (M received : List ℕ) (r : TagAnswer)
-    → (take (k .bits) (bits received) ≡ tagged k M .tag → ⊥) → VerifyPromise k M received r → r .number ≡ 0 → ⊥
-other-tag-verified k M received r h e z = h (checked-bits _ (k .bits) received (tagged k M) r e z)
+    → (bits received ≡ tagged k M .tag ++ replicate (length (bits received) - k .bits) 0 → ⊥) → VerifyPromise k M received r → r .number ≡ 0
+    → ⊥
+other-tag-verified k M received r h e z =
+    h (accepted-equal (k .bits) (bits received) (tagged k M .tag) (checked-accepted _ (k .bits) received (tagged k M) r e z))
+
+-- or a tag of which a spare bit is set: one of them, or all
+pub spare-bit-verified : (k : KeySet) (M received : List ℕ) (r : TagAnswer) (i : ℕ) → k .bits ≤ i → getD (bits received) i 0 ≡ 1
+    → VerifyPromise k M received r → r .number ≡ 0 → ⊥
+unfolding tagged taggen sealed
+spare-bit-verified k M received r i h one e z =
+    let t = checked-accepted _ (k .bits) received (tagged k M) r e z in
+    spare-set (k .bits) (bits received) (tagged k M .tag) t (cut-within (k .bits) _) i h one

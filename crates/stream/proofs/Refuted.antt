@@ -5,21 +5,23 @@ use mathlib.Core.Bool.{false}
 use mathlib.Core.List.{List, _∷_, _++_}
 use Prim.Native.Nat.{ℕ, _+_, _-_, _*_, _≤_, _<_}
 use native.Mathlib.Omega.{arith}
-use lib.ListN.{length, getD, take, drop, length-drop, getD-replicate}
+use lib.ListN.{length, getD, drop, replicate, length-drop, getD-replicate}
 use lib.Seq.{getD-at, getD-drop}
 use Rattle.block.specs.Bits.{bits}
 use Rattle.block.specs.Block.{sixteen}
 use Rattle.block.proofs.Sixteen.{sixteen-at}
 use Rattle.chain.specs.Walk.{Step}
 use Rattle.chain.specs.Stream.{settled, add}
-use Rattle.pcmac.specs.Taggen.{stepOf}
+use Rattle.pcmac.specs.Taggen.{stepOf, sealed}
+use Rattle.pcmac.proofs.Tagver.{accepted-equal, spare-set}
 use Rattle.keys.specs.declared.KeySet.{KeySet}
 use Rattle.keys.specs.KeysIn.{keysIn}
 use Rattle.keys.specs.SetNumber.{setNumber}
 use Rattle.tag.specs.declared.TagAnswer.{TagAnswer}
 use Rattle.tag.specs.Tag.{tagBytes}
 use Rattle.tag.proofs.Answered.{making-number}
-use Rattle.tag.proofs.Told.{making-leaves, checked-fault, checked-bits}
+use Rattle.tag.proofs.Tagged.{cut-within}
+use Rattle.tag.proofs.Told.{making-leaves, checked-fault, checked-accepted}
 use Rattle.judge.specs.declared.Stream.{Stream}
 use Rattle.judge.specs.Stream.{formed, heldOf, viewOf, streamOf}
 use Rattle.judge.proofs.Held.{Fine, held-count}
@@ -143,5 +145,15 @@ other-size-checked k s received r h e z =
 
 -- a check that accepts other bits than the tag's: fewer of them compared, as many as the order is, or from the second byte on
 pub other-tag-checked : (k : KeySet) (s : Stream) (received : List ℕ) (r : TagAnswer)
-    → (take (k .bits) (bits received) ≡ closed k s .tag → ⊥) → CheckPromise k s received r → r .number ≡ 0 → ⊥
-other-tag-checked k s received r h e z = h (checked-bits _ (k .bits) received (closed k s) r e z)
+    → (bits received ≡ closed k s .tag ++ replicate (length (bits received) - k .bits) 0 → ⊥) → CheckPromise k s received r → r .number ≡ 0
+    → ⊥
+other-tag-checked k s received r h e z =
+    h (accepted-equal (k .bits) (bits received) (closed k s .tag) (checked-accepted _ (k .bits) received (closed k s) r e z))
+
+-- or a tag of which a spare bit is set: one of them, or all
+pub spare-bit-checked : (k : KeySet) (s : Stream) (received : List ℕ) (r : TagAnswer) (i : ℕ) → k .bits ≤ i → getD (bits received) i 0 ≡ 1
+    → CheckPromise k s received r → r .number ≡ 0 → ⊥
+unfolding closed sealed
+spare-bit-checked k s received r i h one e z =
+    let t = checked-accepted _ (k .bits) received (closed k s) r e z in
+    spare-set (k .bits) (bits received) (closed k s .tag) t (cut-within (k .bits) _) i h one

@@ -12,7 +12,7 @@ use Rattle.laws.specs.Pick.{pick}
 use Rattle.laws.proofs.UpTo.{Within}
 use Rattle.aes.proofs.Length.{cipher-length}
 use Rattle.block.specs.Bits.{bytes}
-use Rattle.block.specs.Block.{zeros, cut, sixteen}
+use Rattle.block.specs.Block.{zeros, cut}
 use Rattle.chain.specs.declared.Chain.{Chain}
 use Rattle.pcmac.specs.Taggen.{Tagged, sealed}
 use Rattle.keys.specs.declared.KeySet.{KeySet}
@@ -26,8 +26,7 @@ use Rattle.tag.specs.Answer.{taggedBy, refusedTag, madeTag, checkedTag, 
 use Rattle.tag.specs.declared.TagAnswer.{TagAnswer}
 use Rattle.tag.specs.Inner.{Sealed}
 use Rattle.tag.specs.Promise.{WritePromise, ComparePromise}
-use Rattle.tag.proofs.Number.{suits, suited}
-use Rattle.tag.proofs.Tagged.{received-checked}
+use Rattle.tag.proofs.Number.{suited}
 
 module _ (n : ℕ) (t : Tagged) where
   -- refused: the answer, and the slice as it is
@@ -99,15 +98,6 @@ module _ (p : ℕ) (c : Chain) (l : List ℕ) where
   slice-made z e =
       let n = tagNumber p (length l) in
       (sym (making-is n (taggedBy p c) z), e ∙ sym (slice-is n (taggedBy p c) l z))
-
-  -- checked, the received bytes being read as a block
-  pub slice-checked : {x : List ℕ} {r : TagAnswer} → tagNumber p (length l) ≡ 0 → x ≡ sixteen l → r ≡ checkedTag p x (taggedBy p c)
-      → ComparePromise c p l r
-  slice-checked z q e =
-      let n = tagNumber p (length l) in
-      let s = suits p (length l) z in
-      e ∙ ap (λ (y : List ℕ). checkedTag p y (taggedBy p c)) q ∙ received-checked p l (taggedBy p c) (s .bits .high) (s .size)
-      ∙ sym (checking-is n (taggedBy p c) p l z)
 
   -- under a call without a fault of its own, for a tag length and a slice that it has judged
   module _ (n : ℕ) (t : Tagged) (e : n ≡ 0) (w : Within 128 p) (h : length l ≡ tagBytes p) (s : Sealed p t c) where

@@ -1,19 +1,22 @@
 -- Wrong outcomes that the promises, and the contract of the private function `differences`, do not permit.
 -- Assumes nothing.
-use mathlib.Core.Path.{_≡_, refl, ap, sym, _∙_}
-use mathlib.Core.Bool.{Bool, true, false}
+use mathlib.Core.Path.{_≡_, ap, sym, _∙_}
+use mathlib.Core.Bool.{Bool, true}
 use mathlib.Core.Logic.{_⊎_, ⊎-elim}
-use mathlib.Core.List.{List, _∷_}
-use Prim.Native.Nat.{ℕ, _+_, _/_, _%_, _≤_, _<_}
+use mathlib.Core.List.{List, _∷_, _++_}
+use Prim.Native.Nat.{ℕ, _+_, _-_, _*_, _/_, _%_, _≤_, _<_}
+use native.Mathlib.Nat.{le-trans}
 use native.Mathlib.Omega.{arith}
-use lib.ListN.{length, getD, take, replicate}
+use lib.ListN.{length, getD, replicate, List·getD-eq-default}
 use Rattle.laws.specs.Pick.{pick}
+use Rattle.laws.proofs.Filled.{zeros-behind}
 use Rattle.laws.proofs.UpTo.{Within}
 use Rattle.block.specs.Bits.{bits, bytes}
 use Rattle.block.specs.Block.{cut}
+use Rattle.block.proofs.Digits.{bytes-spell}
 use Rattle.chain.specs.declared.Chain.{Chain}
 use Rattle.pcmac.specs.Tagver.{accepted}
-use Rattle.pcmac.proofs.Tagver.{accepted-equal, equal-accepted}
+use Rattle.pcmac.proofs.Tagver.{accepted-equal, equal-accepted, spare-set}
 use Rattle.tag.specs.declared.TagAnswer.{TagAnswer}
 use Rattle.tag.specs.Answer.{taggedBy, refusedTag, checkedTag}
 use Rattle.tag.specs.Difference.{differences}
@@ -22,7 +25,8 @@ use Rattle.tag.specs.Tag.{tagBytes}
 use Rattle.tag.specs.Promise.{SizePromise, RefusedPromise, SizeFaultPromise, WritePromise, ComparePromise}
 use Rattle.tag.proofs.Answered.{making-number, slice-is, checking-is}
 use Rattle.tag.proofs.Number.{fits-size, other-size, suits, suited}
-use Rattle.tag.proofs.Told.{making-leaves, checked-fault}
+use Rattle.tag.proofs.Tagged.{cut-digits, cut-within}
+use Rattle.tag.proofs.Told.{making-leaves, checked-fault, checked-accepted}
 
 -- a size that is rounded down
 pub size-rounded-down : (p r : ℕ) → (p % 8 ≡ 0 → ⊥) → SizePromise p r → r ≡ p / 8 → ⊥
@@ -87,6 +91,17 @@ module _ (c : Chain) (p : ℕ) (slice : List ℕ) (r : TagAnswer) (after : List 
       let n = tagNumber p (length slice) in
       w (ap (λ (x : List ℕ). getD x i 0) (e .1 ∙ slice-is n (taggedBy p c) slice (sym number ∙ z)))
 
+  -- spare bits that are written as ones, or one of them
+  pub spare-bit-written : r .number ≡ 0 → (i : ℕ) → p ≤ i → getD (bits after) i 0 ≡ 1 → ⊥
+  unfolding taggedBy
+  spare-bit-written z i h one =
+      let tag = cut p (c .value) in
+      let is = e .1 ∙ slice-is (tagNumber p (length slice)) (taggedBy p c) slice (sym number ∙ z) in
+      let spelt = bytes-spell tag (cut-digits p (c .value)) in
+      let reads = zeros-behind tag (8 * length (bytes tag) - length tag) i in
+      let none = List·getD-eq-default tag 0 (le-trans (cut-within p (c .value)) h) in
+      omega (arith, ap (λ (x : List ℕ). getD (bits x) i 0) is, ap (λ (x : List ℕ). getD x i 0) (spelt .back), reads, none)
+
 -- comparing
 module _ (c : Chain) (p : ℕ) (received : List ℕ) (r : TagAnswer) (e : ComparePromise c p received r) where
   -- 0 for a tag length that does not exist, as where no bits are compared
@@ -107,19 +122,22 @@ module _ (c : Chain) (p : ℕ) (received : List ℕ) (r : TagAnswer) (e : Compar
         (e ∙ checking-is (tagNumber p (length received)) (taggedBy p c) p received (suited p (length received) w size))
         ∙ ap (λ (b : Bool). pick {A = ℕ} b 0 7) a
 
-    -- a tag that is refused although its bits are those of the value, as where every tag is
-    pub same-bits-refused : take p (bits received) ≡ cut p (c .value) → r .number ≡ 7 → ⊥
+    -- a tag that is refused although it is the value's and then zeros, as where every tag is
+    pub same-bits-refused : bits received ≡ cut p (c .value) ++ replicate (length (bits received) - p) 0 → r .number ≡ 7 → ⊥
     same-bits-refused q z =
         let n = number-by true (equal-accepted p (bits received) (cut p (c .value)) q) in
         omega arith
 
-    -- a tag that is accepted although its bits are not: compared with itself, or by its first byte alone
-    pub other-bits-accepted : (take p (bits received) ≡ cut p (c .value) → ⊥) → r .number ≡ 0 → ⊥
-    other-bits-accepted h z = by (accepted p (bits received) (cut p (c .value))) refl
-      where
-        by : (t : Bool) → accepted p (bits received) (cut p (c .value)) ≡ t → ⊥
-        by true a = h (accepted-equal p (bits received) (cut p (c .value)) a)
-        by false a = let n = number-by false a in omega arith
+  -- a tag that is accepted although it is not so: compared with itself, by its first byte alone, or by its stated bits alone
+  pub other-bits-accepted : (bits received ≡ cut p (c .value) ++ replicate (length (bits received) - p) 0 → ⊥) → r .number ≡ 0 → ⊥
+  unfolding taggedBy
+  other-bits-accepted h z = h (accepted-equal p (bits received) (cut p (c .value)) (checked-accepted _ p received (taggedBy p c) r e z))
+
+  -- a tag that is accepted although a spare bit of it is set: one of them, or all
+  pub spare-bit-accepted : (i : ℕ) → p ≤ i → getD (bits received) i 0 ≡ 1 → r .number ≡ 0 → ⊥
+  unfolding taggedBy
+  spare-bit-accepted i h one z =
+      spare-set p (bits received) (cut p (c .value)) (checked-accepted _ p received (taggedBy p c) r e z) (cut-within p (c .value)) i h one
 
 -- `differences` does not hand back the first difference alone, as a loop that leaves there would: of tags that differ by 80 in their first
 -- byte and by 01 in their second, 81 and not 80

@@ -6,13 +6,11 @@ use mathlib.Core.Logic.{_⊎_, inl, inr, ⊎-elim}
 use mathlib.Core.List.{List}
 use Prim.Native.Nat.{ℕ}
 use native.Mathlib.Omega.{arith}
-use lib.ListN.{take}
 use Rattle.laws.specs.Pick.{pick}
 use Rattle.laws.proofs.Cases.{none-told}
 use Rattle.block.specs.Bits.{bits}
 use Rattle.pcmac.specs.Taggen.{Tagged}
 use Rattle.pcmac.specs.Tagver.{accepted}
-use Rattle.pcmac.proofs.Tagver.{accepted-equal}
 use Rattle.tag.specs.declared.TagAnswer.{TagAnswer}
 use Rattle.tag.specs.Answer.{refusedTag, checkedTag, makingAnswer, makingSlice, checkingAnswer}
 use Rattle.tag.proofs.Answered.{making-refused, making-left, making-number, checking-refused, checking-is, checking-number}
@@ -31,6 +29,11 @@ pub verdict-by : (b : Bool) {n : ℕ} → n ≡ pick b 0 7 → (n ≡ 0) ⊎ (n 
 verdict-by true e = inl e
 verdict-by false e = inr e
 
+-- and 0 says that the test holds
+pub verdict-holds : (b : Bool) → pick {A = ℕ} b 0 7 ≡ 0 → b ≡ true
+verdict-holds true e = refl
+verdict-holds false e = absurd (omega arith)
+
 -- an answer that checks a tag, by its number: none but 0 and 7 carries counts
 checking-none : (n p : ℕ) (l : List ℕ) (t : Tagged) (r : TagAnswer) → r ≡ checkingAnswer n p l t → (r .number ≡ 0 → ⊥)
     → (r .number ≡ 7 → ⊥) → n ≡ 0 → ⊥
@@ -42,18 +45,13 @@ checking-none n p l t r e a b z =
 pub checked-fault : (n p : ℕ) (l : List ℕ) (t : Tagged) (r : TagAnswer) → r ≡ checkingAnswer n p l t → r .number ≡ 0 → n ≡ 0
 checked-fault n p l t r e z = none-told n (λ h. ap (λ (x : TagAnswer). x .number) e ∙ checking-number n p l t h) z
 
--- and that the first p bits that were received are the tag's
-pub checked-bits : (n p : ℕ) (l : List ℕ) (t : Tagged) (r : TagAnswer) → r ≡ checkingAnswer n p l t → r .number ≡ 0
-    → take p (bits l) ≡ t .tag
+-- and that the received tag is accepted
+pub checked-accepted : (n p : ℕ) (l : List ℕ) (t : Tagged) (r : TagAnswer) → r ≡ checkingAnswer n p l t → r .number ≡ 0
+    → accepted p (bits l) (t .tag) ≡ true
 unfolding checkedTag
-checked-bits n p l t r e z = by (accepted p (bits l) (t .tag)) refl
-  where
-    number : r .number ≡ pick (accepted p (bits l) (t .tag)) 0 7
-    number = ap (λ (x : TagAnswer). x .number) (e ∙ checking-is n t p l (checked-fault n p l t r e z))
-
-    by : (b : Bool) → accepted p (bits l) (t .tag) ≡ b → take p (bits l) ≡ t .tag
-    by true a = accepted-equal p (bits l) (t .tag) a
-    by false a = absurd (omega (arith, number, ap (λ (c : Bool). pick {A = ℕ} c 0 7) a))
+checked-accepted n p l t r e z =
+    verdict-holds (accepted p (bits l) (t .tag))
+    (ap (λ (x : TagAnswer). x .number) (sym (e ∙ checking-is n t p l (checked-fault n p l t r e z))) ∙ z)
 
 pub checking-leaves : (n p : ℕ) (l : List ℕ) (t : Tagged) (r : TagAnswer) → r ≡ checkingAnswer n p l t → (r .number ≡ 0 → ⊥)
     → (r .number ≡ 7 → ⊥) → (r .whole ≡ 0) × (r .four ≡ 0)

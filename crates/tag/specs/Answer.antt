@@ -24,7 +24,7 @@ refusedTag number = record { number = number; whole = 0; four = 0 }
 unfoldable pub madeTag : Tagged → TagAnswer
 madeTag t = record { number = done; whole = t .whole; four = t .four }
 
--- checked: 0 where the first p bits that were received are the tag's, otherwise 7; the counts in either case
+-- checked: 0 where the received bits are the tag's p and then zeros, otherwise 7; the counts in either case
 unfoldable pub checkedTag : ℕ → List ℕ → Tagged → TagAnswer
 checkedTag p received t = record {
   number = pick (accepted p (bits received) (t .tag)) done tagDiffers;

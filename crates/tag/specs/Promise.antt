@@ -46,8 +46,8 @@ pub write-once : (c : Chain) (p : ℕ) (slice : List ℕ) (r r′ : TagAnswer) (
     → WritePromise c p slice r′ after′ → (r ≡ r′) × (after ≡ after′)
 write-once c p slice r r′ after after′ a b = (once (a .0) (b .0), once (a .1) (b .1))
 
--- compare hands back 0 where the first p bits that were received are those of the chain's value, otherwise 7, and the counts; or 2 or 3,
--- as write does, and no counts
+-- compare hands back 0 where the received bits are the first p of the chain's value and then zeros, otherwise 7, and the counts; or 2 or
+-- 3, as write does, and no counts
 abbrev pub ComparePromise : Chain → ℕ → List ℕ → TagAnswer → Type 0
 ComparePromise c p received r = r ≡ checkingAnswer (tagNumber p (length received)) p received (taggedBy p c)
 

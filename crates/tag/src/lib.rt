@@ -1,6 +1,6 @@
 // A tag out of the chain after its closing step: the first p bits of the chain's value, as bytes in a
 // lent slice, or compared with those that were received, over every byte (`differences`). The spare low
-// bits of a tag's last byte are written as zeros, and are not looked at where a tag is checked.
+// bits of a tag's last byte are written as zeros, and a received tag has them zero, or it differs.
 //
 //     let n = tag::size(60);                            // 8 bytes
 //     let answer = tag::write(made, 60, &mut space);    // number 0, and the counts
@@ -11,7 +11,6 @@ ghost use Prim.Native.Nat.{_-_, _*_, _%_, _^_, _≤_};
 ghost use lib.ListN.{length, take};
 ghost use Rattle.block.specs.Bits.{bytes};
 ghost use Rattle.block.specs.Block.{cut, sixteen};
-ghost use Rattle.tag.specs.Answer.{taggedBy, checkedTag};
 ghost use Rattle.tag.specs.Difference.{differences};
 ghost use Rattle.tag.specs.Fault.{tagNumber};
 ghost use Rattle.tag.specs.Promise.{SizePromise, RefusedPromise, SizeFaultPromise, WritePromise, ComparePromise};
@@ -21,7 +20,7 @@ use numbers::BAD_SIZE;
 use numbers::DONE;
 use numbers::TAG_DIFFERS;
 
-// In what two tags differ; a tag of fewer than 128 bits has zeros behind it (`kept`). Each of the sixteen
+// In what two tags differ, each at the front of a block with zeros behind its bytes. Each of the sixteen
 // bytes is looked at, whatever those before it gave, and the bits in which it differs are gathered; what
 // was gathered is 0 exactly where the two are the same (`no-difference`, proofs/Difference.antt). A loop
 // that left at the first difference would take longer the more of a forged tag is right. Of time
@@ -108,7 +107,7 @@ fn kept_byte(byte: u8, k: usize) -> u8
 }
 
 // The first p bits of a block, and then zeros. Of 128 bits, the tag length where none is said, that is
-// the block as it is: going through it byte by byte would cost a tag 100 instructions for nothing.
+// the block as it is: going through it byte by byte would cost a tag over 100 instructions for nothing.
 fn kept(x: [u8; 16], p: u8) -> [u8; 16]
     ensures { λ r. ⌜ r ≡ sixteen (bytes (cut p x)) ⌝ }
 {
@@ -153,21 +152,9 @@ pub fn write(made: Chain, bits: u8, slice: &mut [u8]) -> TagAnswer
     }
 }
 
-// The verdict on a received tag, whose bytes stand at the front of a block: its first p bits are
-// compared with those of the chain's value after the closing step, and no others.
-fn verdict(made: Chain, bits: u8, received: [u8; 16]) -> TagAnswer
-    ensures { λ r. ⌜ r ≡ checkedTag bits received (taggedBy bits made) ⌝ }
-{
-    let value = made.value;
-    let differing = differences(kept(received, bits), kept(value, bits));
-    TagAnswer {
-        number: if differing == 0 { DONE } else { TAG_DIFFERS },
-        whole: made.whole,
-        four: made.four,
-    }
-}
-
-// The verdict on a received tag.
+// The verdict on a received tag. It stands at the front of a block, zeros behind it, and so does the tag
+// that was made (`kept`). Nothing is masked on the received side: a spare bit that is set differs as any
+// other bit does, so that a tag has one spelling.
 pub fn compare(made: Chain, bits: u8, received: &[u8]) -> TagAnswer
     ensures { λ r. ⌜ ComparePromise made bits (now (received .entry)) r ⌝ }
 {
@@ -175,5 +162,11 @@ pub fn compare(made: Chain, bits: u8, received: &[u8]) -> TagAnswer
     if number != DONE {
         return refused(number);
     }
-    verdict(made, bits, block::read(received, 0))
+    let value = made.value;
+    let differing = differences(block::read(received, 0), kept(value, bits));
+    TagAnswer {
+        number: if differing == 0 { DONE } else { TAG_DIFFERS },
+        whole: made.whole,
+        four: made.four,
+    }
 }

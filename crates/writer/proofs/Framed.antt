@@ -1,20 +1,17 @@
 -- The frame of a body and its line, both ways: it decodes to the frame, of which the body is the body, and the tag the tag.
 -- Assumes nothing.
-use mathlib.Core.Path.{_≡_, ap, sym, _∙_}
+use mathlib.Core.Path.{_≡_, refl, ap, sym, _∙_}
 use mathlib.Core.Bool.{true}
 use mathlib.Core.Logic.{⊎-elim}
-use mathlib.Core.List.{List, [], _++_, append-nil}
-use Prim.Native.Nat.{ℕ, _+_, _-_, _%_, _≤_, _<_}
+use mathlib.Core.List.{List, _++_}
+use Prim.Native.Nat.{ℕ, _+_, _-_, _≤_, _<_}
 use native.Mathlib.Omega.{arith}
 use lib.ListN.{length, getD, take, drop, length-append, take-append-drop, List·getD-append}
-use lib.Seq.{take-at, drop-at, take-all, length-take-le, getD-drop, getD-append-add}
+use lib.Seq.{take-at, drop-at, length-take-le, getD-drop, getD-append-add}
 use Rattle.laws.proofs.Bytes.{Bytes}
 use Rattle.laws.proofs.Cases.{below-or-not}
 use Rattle.laws.proofs.Fault.{unless-holds}
-use Rattle.block.specs.Bits.{bits, bytes}
-use Rattle.block.proofs.Bits.{bytes-bits}
-use Rattle.block.proofs.Padding.{bits-length}
-use Rattle.pcmac.proofs.Tagver.{accepted-equal, equal-accepted}
+use Rattle.block.specs.Bits.{bytes}
 use Rattle.keys.specs.declared.KeySet.{KeySet}
 use Rattle.tag.specs.Tag.{tagBytes}
 use Rattle.message.specs.Answer.{tagged}
@@ -29,7 +26,7 @@ use Rattle.frame.proofs.Made.{tag-length}
 use Rattle.frame.proofs.Judged.{tagAccepted, checked, is-accepted}
 use Rattle.writer.specs.Line.{frameOf, lineOf}
 use Rattle.writer.proofs.Number.{Fits}
-use Rattle.writer.proofs.TagBits.{tagged-length, tagged-bytes, tagged-back}
+use Rattle.writer.proofs.TagBits.{tagged-length, tagged-bytes, tagged-spelt}
 
 -- bytes and then others are bytes, and so are those of a rest
 bytes-append : (a b : List ℕ) → Bytes a → Bytes b → Bytes (a ++ b)
@@ -47,18 +44,6 @@ bytes-append a b h k j = record { fits = ⊎-elim front behind (below-or-not j (
 
 bytes-drop : (n : ℕ) (l : List ℕ) → Bytes l → Bytes (drop n l)
 bytes-drop n l h j = record { fits = rw (getD-drop n l j 0) (h (n + j) .fits) }
-
-no-bytes : (m : List ℕ) → m ++ bytes [] ≡ m
-unfolding bytes
-no-bytes m = append-nil m
-
--- a frame whose tag has just its bits, as bytes: where the tag length is a multiple of 8, a tag that is accepted is the tag's bytes
-pub tag-spelt : (p : ℕ) (received tag : List ℕ) → p % 8 ≡ 0 → length received ≡ tagBytes p → Bytes received
-    → take p (bits received) ≡ tag → received ≡ bytes tag
-tag-spelt p received tag e n h q =
-    let all : take p (bits received) ≡ bits received = take-all p (bits received) (omega (arith, bits-length received)) in
-    sym
-    (ap bytes (sym q ∙ all ∙ sym (append-nil (bits received))) ∙ bytes-bits received [] h ∙ no-bytes received)
 
 module _ (k : KeySet) (body : List ℕ) (fits : Fits k (length body)) where
   abbrev f : List ℕ
@@ -91,8 +76,8 @@ module _ (k : KeySet) (body : List ℕ) (fits : Fits k (length body)) where
   -- its tag is its body's
   frame-accepted : tagAccepted k f ≡ true
   frame-accepted =
-      rw (frame-body, frame-tag)
-      (equal-accepted (k .bits) (bits (bytes (tagged k body .tag))) (tagged k body .tag) (tagged-back k body (fits .set .tag .high)))
+      let l = fits .set .tag .high in
+      rw (frame-body, frame-tag) (tagged-spelt k body l (bytes (tagged k body .tag)) (tagged-bytes k body) (tagged-length k body l) .1 refl)
 
   -- the verdict on it: 0, the counts of the body's tag, and the body's length
   pub frame-verdict : frameAnswer k f
@@ -120,7 +105,25 @@ module _ (k : KeySet) (body : List ℕ) (fits : Fits k (length body)) where
     pub line-frame : decoded (lineOf k body) ≡ f
     line-frame = decoded-encoded f frame-bytes
 
--- the other way: a line that decodes to an accepted frame, under a tag length that is a multiple of 8, is the line of its body
+-- the other way: a frame of bytes that is accepted is the frame of its body
+module _ (k : KeySet) (g : List ℕ) (h : Bytes g) (z : frameAnswer k g .number ≡ 0) where
+  frame-whole : bodyOf k g ++ tagOf k g ≡ g
+  unfolding bodyOf tagOf
+  frame-whole = take-append-drop (bodyLength k g) g
+
+  tag-bytes : Bytes (tagOf k g)
+  unfolding tagOf
+  tag-bytes = bytes-drop (bodyLength k g) g h
+
+  pub frame-again : frameOf k (bodyOf k g) ≡ g
+  unfolding frameOf
+  frame-again =
+      let a = is-accepted k g z in
+      let f = framed k (length g) (a .none) in
+      let spelt = tagged-spelt k (bodyOf k g) (f .set .tag .high) (tagOf k g) tag-bytes (tag-length k g (omega (arith, f .some))) in
+      ap (λ (x : List ℕ). bodyOf k g ++ x) (sym (spelt .0 (a .tag))) ∙ frame-whole
+
+-- and a line that decodes to it is the line of its body
 module _ (k : KeySet) (line : List ℕ) (read : decodeNumber 255 line ≡ 0) (z : frameAnswer k (decoded line) .number ≡ 0) where
   abbrev g : List ℕ
   g = decoded line
@@ -132,23 +135,5 @@ module _ (k : KeySet) (line : List ℕ) (read : decodeNumber 255 line ≡ 0) (z 
       let n : length (take (bodyLength k g) g) ≡ bodyLength k g = length-take-le (bodyLength k g) g (omega arith) in
       record { set = a .set; some = omega (arith, n, a .some); most = omega (arith, n, a .fits, a .some) }
 
-  tag-bytes : Bytes (tagOf k g)
-  unfolding tagOf
-  tag-bytes = bytes-drop (bodyLength k g) g (decoded-bytes line)
-
-  frame-whole : bodyOf k g ++ tagOf k g ≡ g
-  unfolding bodyOf tagOf
-  frame-whole = take-append-drop (bodyLength k g) g
-
-  pub frame-again : k .bits % 8 ≡ 0 → frameOf k (bodyOf k g) ≡ g
-  unfolding frameOf
-  frame-again e =
-      let a = is-accepted k g z in
-      let some = framed k (length g) (a .none) .some in
-      let spelt : tagOf k g ≡ bytes (tagged k (bodyOf k g) .tag) =
-      tag-spelt (k .bits) (tagOf k g) (tagged k (bodyOf k g) .tag) e (tag-length k g (omega (arith, some))) tag-bytes
-      (accepted-equal (k .bits) (bits (tagOf k g)) (tagged k (bodyOf k g) .tag) (a .tag)) in
-      ap (λ (x : List ℕ). bodyOf k g ++ x) (sym spelt) ∙ frame-whole
-
-  pub line-again : k .bits % 8 ≡ 0 → lineOf k (bodyOf k g) ≡ line
-  line-again e = ap encoded (frame-again e) ∙ encoded-decoded line (decodes 255 line read .hex)
+  pub line-again : lineOf k (bodyOf k g) ≡ line
+  line-again = ap encoded (frame-again k g (decoded-bytes line) z) ∙ encoded-decoded line (decodes 255 line read .hex)
