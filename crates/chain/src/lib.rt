@@ -1,6 +1,6 @@
 // The chain of Algorithm 2.2: its value, and the steps that it has taken. What a step is stands above;
 // specs/ has the walk over the blocks, for any order and any step, proofs/ its laws.
-#[derive(Drop)]
+#[derive(Clone, Copy)]
 pub struct Chain {
     // The chain value s.
     pub value: [u8; 16],

@@ -15,7 +15,7 @@ use numbers::{BAD_LENGTH, DONE};
 pub const LONGEST: usize = 255;
 
 // What judging a frame answers: its number, the steps of each kind, and how long its body is.
-#[derive(Drop)]
+#[derive(Clone, Copy)]
 pub struct FrameAnswer {
     pub number: u8,
     pub whole: usize,

@@ -25,14 +25,14 @@ const LONGEST: usize = 510;
 const SPACE: usize = 255;
 
 // What a character stands for: a value, or nothing, since it is no digit.
-#[derive(Drop)]
+#[derive(Clone, Copy)]
 pub enum Read {
     Value(u8),
     Bad,
 }
 
 // What decoding a line or encoding bytes answers: its number, and how many bytes or characters it wrote.
-#[derive(Drop)]
+#[derive(Clone, Copy)]
 pub struct LineAnswer {
     pub number: u8,
     pub written: usize,

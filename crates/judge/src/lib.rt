@@ -16,7 +16,7 @@ use numbers::{BAD_STREAM, DONE, NO_BYTES, TOO_LONG};
 const MESSAGE_LIMIT: usize = 1048576;
 
 // A message of which some bytes are known: what has to be kept of them until the next part comes.
-#[derive(Drop)]
+#[derive(Clone, Copy)]
 pub struct Stream {
     // How many bytes are known.
     pub total: usize,

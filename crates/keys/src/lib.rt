@@ -28,7 +28,7 @@ pub const LONGEST_TAG: usize = 128;
 
 // What tags are made and checked with. Whoever holds a key set holds both keys: round key 0 is K,
 // and doubled L gives L.
-#[derive(Drop)]
+#[derive(Clone, Copy)]
 pub struct KeySet {
     // The order d, 1 to 5; 0 in a set of zeros, which later calls refuse.
     pub order: u8,
@@ -45,7 +45,7 @@ pub struct KeySet {
 }
 
 // What the key call answers: its number, the whole-cipher steps that it took, and the key set.
-#[derive(Drop)]
+#[derive(Clone, Copy)]
 pub struct KeyAnswer {
     pub number: u8,
     pub steps: usize,

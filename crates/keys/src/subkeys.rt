@@ -12,7 +12,7 @@ const PARTS: usize = 0;
 const AUXES: usize = 15;
 
 // The subkeys so far, and the steps taken for them.
-#[derive(Drop)]
+#[derive(Clone, Copy)]
 pub struct Taken {
     pub subkeys: [u8; 304],
     pub steps: usize,

@@ -19,7 +19,7 @@ pub const KEPT: usize = 511;
 const STRIDE: usize = 16;
 
 // The line so far, with zeros behind its characters, and how many they are.
-#[derive(Drop)]
+#[derive(Clone, Copy)]
 pub struct Gathered {
     pub line: [u8; KEPT],
     pub count: usize,

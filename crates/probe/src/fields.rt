@@ -13,14 +13,14 @@ const NOWHERE: usize = usize::MAX;
 const WIDEST: usize = 1024;
 
 // A bytes field: how many bytes it has, and the place behind it.
-#[derive(Drop)]
+#[derive(Clone, Copy)]
 pub struct Field {
     pub length: usize,
     pub next: usize,
 }
 
 // A lent space: how many bytes it has, the byte that it is filled with, and the place behind it.
-#[derive(Drop)]
+#[derive(Clone, Copy)]
 pub struct Space {
     pub size: usize,
     pub fill: u8,

@@ -38,7 +38,7 @@ pub(crate) const NO_CALL: u8 = 0;
 
 // A question: the call's number; how many bytes its first and its second bytes field have; the size of
 // the space, and the byte that fills it.
-#[derive(Drop)]
+#[derive(Clone, Copy)]
 pub struct Question {
     pub call: u8,
     pub first: usize,

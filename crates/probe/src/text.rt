@@ -14,7 +14,7 @@ const NO_DIGIT: usize = 256;
 
 // Where reading stands: of the bytes in hand those from `from` to `end` are not read yet; of the line
 // `count` characters are kept; whether its line feed was read; and whether the input has ended.
-#[derive(Drop)]
+#[derive(Clone, Copy)]
 pub struct Reading {
     pub from: usize,
     pub end: usize,

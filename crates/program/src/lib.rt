@@ -37,14 +37,14 @@ const SPACE: usize = 16384;
 
 // What was made of a read: why the turn ended, and the state after it; the state that was given where the
 // read or a write failed.
-#[derive(Drop)]
+#[derive(Clone, Copy)]
 pub struct Heard {
     pub reason: u8,
     pub state: State,
 }
 
 // Why the loop ended, how many reads were left, and the state at its end.
-#[derive(Drop)]
+#[derive(Clone, Copy)]
 pub struct Ran {
     pub reason: u8,
     pub reads: u64,

@@ -35,7 +35,7 @@ const OVER: u8 = 2;
 
 // What is kept from one part of the input to the next: what the lines so far have made of it, and the
 // line that is begun.
-#[derive(Drop)]
+#[derive(Clone, Copy)]
 pub struct State {
     pub kind: u8,
     pub stage: u8,
@@ -46,7 +46,7 @@ pub struct State {
 
 // What a step answers: the state after it, how many bytes of the part it took, and how many bytes of texts
 // it wrote.
-#[derive(Drop)]
+#[derive(Clone, Copy)]
 pub struct Stepped {
     pub state: State,
     pub taken: usize,
@@ -54,7 +54,7 @@ pub struct Stepped {
 }
 
 // What a line makes of a session, and how long the text is that was told at it.
-#[derive(Drop)]
+#[derive(Clone, Copy)]
 struct Told {
     stage: u8,
     keys: KeySet,
@@ -62,7 +62,7 @@ struct Told {
 }
 
 // The state so far, and how many bytes were taken and written for it.
-#[derive(Drop)]
+#[derive(Clone, Copy)]
 struct Turn {
     state: State,
     at: usize,
@@ -70,7 +70,7 @@ struct Turn {
 }
 
 // How many bytes were taken and written so far.
-#[derive(Drop)]
+#[derive(Clone, Copy)]
 struct Span {
     at: usize,
     out: usize,

@@ -21,7 +21,7 @@ use numbers::DONE;
 pub use tag::TagAnswer;
 
 // What adding answers: its number, and the stream.
-#[derive(Drop)]
+#[derive(Clone, Copy)]
 pub struct Added {
     pub number: u8,
     pub stream: Stream,

@@ -35,7 +35,7 @@ fn differences(x: [u8; 16], y: [u8; 16]) -> u8
 }
 
 // What a call that makes or checks a tag answers: its number, and the steps of each kind.
-#[derive(Drop)]
+#[derive(Clone, Copy)]
 pub struct TagAnswer {
     pub number: u8,
     pub whole: usize,

@@ -16,7 +16,7 @@ use libc::STDIN_FILENO;
 use text::Line;
 
 // What is kept from line to line: whether there may be more, and the schedule of the last key.
-#[derive(Drop)]
+#[derive(Clone, Copy)]
 struct Turn {
     more: bool,
     w: [u8; 176],

@@ -6,7 +6,7 @@ use libc::STDOUT_FILENO;
 const LINE_FEED: u8 = 10;
 
 // A line that was read: its letter, '?' where it is not of the form, and its sixteen bytes.
-#[derive(Drop)]
+#[derive(Clone, Copy)]
 pub struct Line {
     pub letter: u8,
     pub bytes: [u8; 16],

@@ -18,7 +18,7 @@ pub const LEAST_ROOM: usize = 510;
 
 // What writing a line answers: its number, the steps of each kind that its tag took, and how many
 // characters it has.
-#[derive(Drop)]
+#[derive(Clone, Copy)]
 pub struct Written {
     pub number: u8,
     pub whole: usize,
