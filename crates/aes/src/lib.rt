@@ -6,6 +6,8 @@
 //
 // Each public function builds the substitution's table once and lends it down; what takes a lent
 // table stays inside the crate.
+#![tactic(auto)]
+
 mod expand;
 mod rounds;
 

@@ -4,6 +4,8 @@
 //
 //     let verdict = answer::of_line(keys, &line);
 //     let written = answer::tell(verdict, &mut space);    // the text is &space[..written]
+#![tactic(auto)]
+
 ghost use Rattle.std.specs.Prelude.{◌≡◌};
 ghost use Rattle.answer.specs.Text.{answer_bytes};
 ghost use Rattle.answer.specs.Promise.{OfLinePromise, TellPromise};

@@ -5,6 +5,8 @@
 // two digits, of which the second is the order: S, how many streams of 1 MiB, in one part, are added
 // to and closed; T, how many messages of 100 bytes are tagged in one call. The last block of the
 // chain or the last tag is written, 16 bytes.
+#![tactic(auto)]
+
 ghost use Rattle.std.specs.Prelude.{◌<◌};
 
 use keys::KeySet;

@@ -1,5 +1,7 @@
 // Blocks of 16 bytes, as NEC's specification of PC-MAC-AES uses them: exclusive or, a number as a
 // block, doubling in GF(2^128), padding; and a block out of a slice. Blocks go by value.
+#![tactic(auto)]
+
 ghost use Rattle.std.specs.Prelude.{◌≡◌, ◌++◌, ◌+◌, ◌*◌, ◌/◌, ◌%◌, ◌<◌, get_or, take};
 ghost use Rattle.block.specs.Block.{shifted};
 ghost use Rattle.block.specs.Promise.{XorPromise, NumberedPromise, DoublePromise};

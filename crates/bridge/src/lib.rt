@@ -2,6 +2,8 @@
 // outlive the frame, so each has a lifetime of its own.
 //
 //     let now = bridge::open_or_keep(keys, &frame, in_force);
+#![tactic(auto)]
+
 ghost use Rattle.bridge.specs.Promise.{OpenOrKeepPromise};
 
 use keys::KeySet;

@@ -8,6 +8,8 @@
 //
 // Each answers the number of the first fault: those of the key call, then 3 where the slice for the
 // counts is not of just as many numbers, then those of the call under the key set that was made.
+#![tactic(auto)]
+
 ghost use Rattle.std.specs.Prelude.{◌≡◌, length};
 ghost use Rattle.collierbud.specs.Answer.{start_number, tagging, tagged_space, checking, opening};
 ghost use Rattle.collierbud.specs.Answer.{two_counts, three_counts};

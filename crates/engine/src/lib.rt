@@ -4,6 +4,8 @@
 //
 //     let c = engine::absorb(2, &round, &subkeys, 0, begun, &part);   // the whole blocks of a part
 //     let made = engine::seal(&round, full, short, c, last, n);       // and the last, of n bytes
+#![tactic(auto)]
+
 ghost use Rattle.std.specs.Prelude.{◌≡◌, ◌+◌, ◌%◌, ◌≤◌, ◌<◌, take};
 ghost use Rattle.pcmac.specs.Functions.{G};
 ghost use Rattle.chain.specs.Walk.{stepped};

@@ -2,6 +2,8 @@
 //
 // The one public function hands the table out by value: a caller builds it once and lends it on,
 // since each use of a constant lays the whole table down again.
+#![tactic(auto)]
+
 ghost use Rattle.field.specs.Promise.{SboxPromise};
 
 // Figure 7, row by row: the byte for {xy} stands at place 16x + y.

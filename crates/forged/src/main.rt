@@ -5,6 +5,8 @@
 // C for stream::check, J for frame::judge, any other for none; the tag length, in bits; and a mask of
 // sixteen bytes, which is added to the tag. Written are two digits of the number that the call gives, and
 // two of the length of the body that it accepts, which judging a frame alone has.
+#![tactic(auto)]
+
 ghost use Rattle.std.specs.Prelude.{◌≤◌};
 
 use keys::KeySet;

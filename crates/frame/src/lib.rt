@@ -4,6 +4,8 @@
 //     let verdict = frame::judge(keys, &frame);            // number 0: accepted
 //     let body = frame::open(keys, &frame);                // that part of the frame, or no bytes
 //     let table = frame::open_or(keys, &frame, in_force);    // the body, or the table in force
+#![tactic(auto)]
+
 ghost use Rattle.std.specs.Prelude.{◌≡◌};
 ghost use Rattle.frame.specs.Frame.{frame_number};
 ghost use Rattle.frame.specs.Promise.{RefusedPromise, JudgePromise, OpenPromise, OpenOrPromise};

@@ -9,6 +9,8 @@
 //
 // The characters may be those of a key. So in the source of decode and encode no branch and no address
 // depends on one, but for whether all of a line are digits. (Nothing is proved of time.)
+#![tactic(auto)]
+
 ghost use Rattle.std.specs.Prelude.{◌≡◌, true, ◌++◌, ◌+◌, ◌*◌, ◌/◌, ◌%◌, ◌≤◌, ◌<◌, length, drop};
 ghost use Rattle.hex_line.specs.Answer.{refused_line};
 ghost use Rattle.hex_line.specs.Digit.{is_digit, value_of, character_of};

@@ -3,6 +3,8 @@
 //
 //     let fault = judge::stream_fault(2, s);     // 4 where the stream is not well formed for order 2
 //     let fault = judge::length_fault(0, n);     // 5 where n bytes are too many
+#![tactic(auto)]
+
 ghost use Rattle.std.specs.Prelude.{◌≡◌, ◌≤◌, drop};
 ghost use Rattle.laws.specs.Fault.{unless};
 ghost use Rattle.chain.specs.Count.{whole_for, four_for};

@@ -2,6 +2,8 @@
 // that the checking program reads.
 //
 //     let made = keyline::read(&line);    // answers as the key call does; 8 or 9 where it is no key line
+#![tactic(auto)]
+
 ghost use Rattle.std.specs.Prelude.{◌≡◌};
 ghost use Rattle.keyline.specs.KeyLine.{said_keys};
 ghost use Rattle.keyline.specs.Promise.{ReadPromise};

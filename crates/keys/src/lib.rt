@@ -6,6 +6,8 @@
 //     let x = keys::x_key(&made.keys.subkeys, 1);        // the auxiliary key before U_2
 //
 // How the subkeys stand in their array is known to the module `subkeys` alone.
+#![tactic(auto)]
+
 mod subkeys;
 
 ghost use Rattle.std.specs.Prelude.{◌≡◌, ◌≤◌};

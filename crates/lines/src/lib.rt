@@ -5,6 +5,8 @@
 //
 //     let end = lines::find(&part, at);                       // a line feed stands there, or the part ends
 //     let g = lines::gather(line, count, &part[at..end]);     // g.line has g.count characters of it
+#![tactic(auto)]
+
 ghost use Rattle.std.specs.Prelude.{◌≡◌, true, ◌+◌, ◌-◌, ◌≤◌, leb, length, take, drop};
 ghost use Rattle.lines.specs.Lines.{plain};
 ghost use Rattle.lines.specs.Promise.{TidyPromise, HeldPromise, GatherPromise, FindPromise};

@@ -2,6 +2,8 @@
 //
 //     let t = message::tag(keys, &text, &mut space);      // t.number is 0, the space has the tag
 //     let v = message::verify(keys, &text, &received);    // v.number is 0, or 7: the tag differs
+#![tactic(auto)]
+
 ghost use Rattle.std.specs.Prelude.{◌≡◌, ◌≤◌, length};
 ghost use Rattle.tag.specs.Inner.{Sealed};
 ghost use Rattle.message.specs.Answer.{message_number, tagged};

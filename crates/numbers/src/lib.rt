@@ -2,6 +2,7 @@
 // number of the first fault.
 //
 //     if answer.number != numbers::DONE { .. }
+#![tactic(auto)]
 
 // Nothing is refused.
 pub const DONE: u8 = 0;

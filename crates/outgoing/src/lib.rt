@@ -2,6 +2,8 @@
 // or its body is refused, a line feed alone.
 //
 //     let written = outgoing::tell(keys, &line, &mut space);    // the text is &space[..written]
+#![tactic(auto)]
+
 ghost use Rattle.std.specs.Prelude.{◌≤◌, length};
 ghost use Rattle.lines.specs.Moves.{Wrote};
 ghost use Rattle.writer.specs.Line.{least_room};

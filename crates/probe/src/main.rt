@@ -3,6 +3,8 @@
 // answered; a line that is no question is answered by a question mark.
 //
 // Nothing is kept from one question to the next, and the memory does not grow with the input.
+#![tactic(auto)]
+
 mod calls;
 mod fields;
 mod question;

@@ -7,6 +7,8 @@
 //     fn main() {
 //         program::run(session::CHECK, b"check", u64::MAX);
 //     }
+#![tactic(auto)]
+
 ghost use Rattle.std.specs.Prelude.{◌≡◌, ◌≤◌, length};
 ghost use Rattle.program.specs.Reason.{negative, told_of, end_reason};
 ghost use Rattle.program.specs.Inner.{Answers, Finishes};

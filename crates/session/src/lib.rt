@@ -7,6 +7,8 @@
 //     let a = session::step(s, &part, &mut space);    // a.taken bytes of the part are read, and the
 //                                                     // texts are &space[..a.written]
 //     let e = session::finish(a.state, &mut space);    // a last line may lack its line feed
+#![tactic(auto)]
+
 ghost use Rattle.std.specs.Prelude.{◌≡◌, [], eqb, leb, ltb, length, ◌+◌, ◌-◌, ◌≤◌};
 ghost use Rattle.laws.specs.Agree.{both};
 ghost use Rattle.laws.specs.Pick.{pick};

@@ -1,5 +1,7 @@
 // The state of FIPS 197: four rows of four bytes, by value. Byte r + 4c of a block stands in row r,
 // column c. Each function takes states and hands back a new one.
+#![tactic(auto)]
+
 ghost use Rattle.std.specs.Prelude.{◌≡◌, ◌*◌, ◌/◌, ◌%◌, ◌<◌, [], get_or};
 ghost use Rattle.field.specs.Field.{mul};
 ghost use Rattle.state.specs.State.{word, xor_word, mix};

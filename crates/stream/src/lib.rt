@@ -6,6 +6,8 @@
 //     let a = stream::add(keys, s, &part);                 // a.number is 0, a.stream has the part
 //     let t = stream::close(keys, a.stream, &mut space);   // t.number is 0, the space has the tag
 //     let v = stream::check(keys, a.stream, &received);    // v.number is 0, or 7: the tag differs
+#![tactic(auto)]
+
 ghost use Rattle.std.specs.Prelude.{◌≡◌, ◌≤◌};
 ghost use Rattle.engine.specs.Engine.{chain_step};
 ghost use Rattle.tag.specs.Inner.{Sealed};

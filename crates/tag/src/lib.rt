@@ -6,6 +6,8 @@
 //     let answer = tag::write(made, 60, &mut space);    // number 0, and the counts
 //     let verdict = tag::compare(made, 60, &received);  // number 0, or 7 where the tag differs
 //     let none = tag::compare(made, 0, &received);      // number 2: there is no such tag
+#![tactic(auto)]
+
 ghost use Rattle.std.specs.Prelude.{◌≡◌, ◌-◌, ◌*◌, ◌%◌, ◌^◌, ◌≤◌, length, take};
 ghost use Rattle.block.specs.Bits.{bytes};
 ghost use Rattle.block.specs.Block.{cut, sixteen};

@@ -8,6 +8,8 @@
 //     D block   writes mul2 of the block
 //     W key     writes the 44 words of the key's schedule, a line each
 // A line that is none of these is answered by a question mark.
+#![tactic(auto)]
+
 mod text;
 
 ghost use Rattle.std.specs.Prelude.{◌<◌};

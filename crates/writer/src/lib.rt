@@ -2,6 +2,8 @@
 // aboard is to check them.
 //
 //     let w = writer::write(keys, &body, &mut space);    // w.number is 0, &space[..w.written] the line
+#![tactic(auto)]
+
 ghost use Rattle.std.specs.Prelude.{◌≡◌};
 ghost use Rattle.writer.specs.Line.{write_number, refused_write};
 ghost use Rattle.writer.specs.Inner.{Appends};

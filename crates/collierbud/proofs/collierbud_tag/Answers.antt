@@ -1,0 +1,11 @@
+-- `collierbud::collierbud_tag` meets its contract. What its three calls ensure, one in the other.
+-- Assumes nothing.
+use Rattle.collierbud.proofs.Together.{tag_together}
+use Rattle.collierbud.proofs.collierbud_tag.Goals as goal
+
+pub returns : goal.returns
+returns c =
+    let at-put = c in
+    let at-tagged = at-put in
+    let at_call = at-tagged in
+    tag_together _ _ _ _ at_call.key_call-made.ensures _ _ _ at-tagged.tagged-a.ensures at-put.put_two.ensures

@@ -1,0 +1,14 @@
+-- `hex::fault` meets its contract. By one test over all 256 characters.
+-- Assumes nothing.
+use mir.Syntax.{w8}
+use mir.Val.{Fits}
+use Rattle.hex_line.specs.Digit.{digit_of, read_number}
+use Rattle.hex_line.proofs.Digits.{strange_found}
+use borrow.Author.Rules.{rules}
+use Rattle.hex_line.proofs.fault.Goals as goal
+
+pub returns : goal.returns
+unfolding digit_of read_number
+returns c =
+    let f : Fits w8 c.args.c = search rules in
+    strange_found _ _ _ _ tt c.args.c f.fits

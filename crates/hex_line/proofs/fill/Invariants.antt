@@ -1,0 +1,10 @@
+use Prim.Native.Nat.{◌-◌}
+use Rattle.laws.proofs.Laid.{Laid, laid_length, front_within, front_put}
+use Rattle.hex_line.specs.Line.{decoded}
+use Rattle.hex_line.proofs.fill.Given as goal
+
+abbrev pub invariant-loop-i : goal.invariant-loop-i
+invariant-loop-i l = Laid (decoded l.line) l.initial.space 0 l.n l.space l.i
+
+abbrev pub decreases-loop-i : goal.decreases-loop-i
+decreases-loop-i l = l.n - l.i

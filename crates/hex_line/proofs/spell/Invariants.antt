@@ -1,0 +1,11 @@
+use Prim.Native.Nat.{◌-◌, ◌*◌}
+use lib.ListN.{length, length-set}
+use Rattle.laws.proofs.Laid.{Laid, laid_length}
+use Rattle.hex_line.specs.Line.{encoded}
+use Rattle.hex_line.proofs.spell.Given as goal
+
+abbrev pub invariant-loop-i : goal.invariant-loop-i
+invariant-loop-i l = Laid (encoded l.bytes) l.initial.space 0 (2 * length l.bytes) l.space (2 * l.i)
+
+abbrev pub decreases-loop-i : goal.decreases-loop-i
+decreases-loop-i l = length l.bytes - l.i

@@ -1,0 +1,12 @@
+-- `keys::subkeys::made` meets its contract. The two runs are the definition's two loops.
+-- Assumes nothing.
+use native.Mathlib.Omega.{arith}
+use Rattle.keys.proofs.Ran.{ran_count, taken_runs}
+use borrow.Author.Rules.{rules}
+use Rattle.keys.proofs.subkeys.made.Goals as goal
+
+pub run-requires : goal.run-requires
+run-requires c = (search rules, search rules, omega (arith, ran_count _ _ _ _ _ _ _ c.run-parts.ensures, c.requires))
+
+pub returns : goal.returns
+returns c = taken_runs _ _ _ _ _ c.run-parts.ensures c.run.ensures

@@ -1,0 +1,39 @@
+-- `lines::skip` meets its contract. Sixteen characters without a line feed are passed over, and less of the part is left.
+-- Assumes nothing.
+use mathlib.Core.Path.{sym, ◌∙◌}
+use Prim.Native.Nat.{◌+◌, ◌-◌, ◌≤◌}
+use native.Mathlib.Omega.{arith}
+use lib.ListN.{length}
+use borrow.Author.Tests.{leb-true, not-false}
+use Rattle.lines.proofs.Finding.{Leads, leads_none, leads_past}
+use borrow.Author.Rules.{rules}
+use Rattle.lines.proofs.skip.Goals as goal
+
+pub loop-at-init : goal.loop-at-init
+loop-at-init c = leads_none _ _
+
+room : (c : goal.In-loop-at) → c.loop-at.i + 16 ≤ length c.args.part.now
+room c =
+    let part = c.args.part.now in
+    let h = leb-true 16 (length part - c.loop-at.i) (sym c.has_sixteen.ensures ∙ c.loop-at-test.true) in
+    omega (arith, h)
+
+pub clear-requires : goal.clear-requires
+clear-requires c = room c
+
+pub returns-then-not-clear : goal.returns-then-not-clear
+returns-then-not-clear c = c.loop-at.invariant.same
+
+pub overflow_add-i : goal.overflow_add-i
+overflow_add-i c = let h = room c in search rules
+
+pub loop-at-smaller : goal.loop-at-smaller
+loop-at-smaller c = omega (arith, room c)
+
+pub loop-at-preserved : goal.loop-at-preserved
+loop-at-preserved c =
+    let at-if = c in
+    leads_past at-if.loop-at.invariant 16 (room at-if) (c.clear.ensures (not-false _ c.if-not-clear.false))
+
+pub returns : goal.returns
+returns c = c.loop-at.invariant.same

@@ -1,0 +1,9 @@
+use Prim.Native.Nat.{◌-◌}
+use Rattle.lines.proofs.Tidied.{Tidied, tidied_none, tidied_more, tidied_all, tidied_whole}
+use Rattle.lines.proofs.tidy.Given as goal
+
+abbrev pub invariant-loop-i : goal.invariant-loop-i
+invariant-loop-i l = Tidied l.line l.count l.r l.i
+
+abbrev pub decreases-loop-i : goal.decreases-loop-i
+decreases-loop-i l = 511 - l.i

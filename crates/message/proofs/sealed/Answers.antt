@@ -1,0 +1,21 @@
+-- `message::sealed` meets its contract. The engine's run over all blocks but the last, and its closing step.
+-- Assumes nothing.
+use mathlib.Core.Path.{sym}
+use lib.ListN.{length}
+use lib.Seq.{length-take-le}
+use Rattle.message.proofs.Whole.{last_at, message_chained, message_last, message_sealed}
+use borrow.Author.Rules.{rules}
+use Rattle.message.proofs.sealed.Goals as goal
+
+pub slice_bounds-absorb-end : goal.slice_bounds-absorb-end
+slice_bounds-absorb-end c = sym (length-take-le _ _ (search rules))
+
+pub returns : goal.returns
+returns c =
+    let at-absorb = c in
+    let at-start = at-absorb in
+    let k = at-start.args.keys in
+    let M = at-start.args.message.now in
+    message_sealed k M at-start.requires.0 at-start.requires.1 c.seal.ensures
+    (message_chained k M (last_at (length M)) at-absorb.absorb-c.ensures)
+    (message_last M (last_at (length M)) c.read-last.ensures)

@@ -1,0 +1,19 @@
+-- `message::verify` meets its contract. By the number of the first fault.
+-- Assumes nothing.
+use mathlib.Core.Path.{sym, ◌∙◌}
+use Rattle.tag.proofs.Answered.{checking_refused, checking_checked}
+use Rattle.message.proofs.Number.{tags}
+use Rattle.message.proofs.verify.Goals as goal
+
+pub returns-then-number-ne-DONE : goal.returns-then-number-ne-DONE
+returns-then-number-ne-DONE c = c.refused.ensures ∙ checking_refused _ _ _ _ c.fault-number.ensures c.if-number-ne-DONE.true
+
+pub sealed-requires : goal.sealed-requires
+sealed-requires c = let t = tags _ _ _ (sym c.fault-number.ensures ∙ c.if-number-ne-DONE.false) in (t.some, t.fits)
+
+pub returns : goal.returns
+returns c =
+    let sealed = c in
+    let none = sym sealed.fault-number.ensures ∙ sealed.if-number-ne-DONE.false in
+    let t = tags _ _ _ none in
+    checking_checked _ _ _ _ _ none t.set.tag t.size sealed.sealed.ensures c.compare.ensures

@@ -1,0 +1,30 @@
+-- `outgoing::tell` meets its contract. By whether the space has room for the longest text.
+-- Assumes nothing.
+use Prim.Native.Nat.{◌<◌}
+use lib.ListN.{length}
+use Rattle.lines.proofs.Telling.{tells_nothing}
+use Rattle.outgoing.proofs.Sent.{fed_within, tells_fed}
+use borrow.Author.Rules.{rules}
+use Rattle.outgoing.proofs.tell.Goals as goal
+
+-- there is room for a line feed behind the characters
+within : (c : goal.After-lay-end) → c.lay-end.result < length c.args.space.now
+within c = fed_within _ _ _ c.if-space-lt-MOST_TEXT.false c.lay-end.ensures
+
+pub returns-then-space-lt-MOST_TEXT : goal.returns-then-space-lt-MOST_TEXT
+returns-then-space-lt-MOST_TEXT c = tells_nothing _ _ _ c.if-space-lt-MOST_TEXT.true
+
+pub bounds-space-end : goal.bounds-space-end
+bounds-space-end c =
+    let h = within c in
+    search rules
+
+pub overflow_add-result : goal.overflow_add-result
+overflow_add-result c =
+    let h = within c in
+    search rules
+
+pub returns : goal.returns
+returns c =
+    let at-lay = c in
+    tells_fed _ _ _ at-lay.if-space-lt-MOST_TEXT.false at-lay.lay-end.ensures

@@ -1,0 +1,48 @@
+-- `program::hear` meets its contract. By what the read gave.
+-- Assumes nothing.
+use mathlib.Core.Path.{◌≡◌, ap, ◌∙◌}
+use lib.IntN.{ℤ}
+use lib.ListN.{length}
+use mir.Syntax.{w64}
+use mir.Val.{to_z, of_z}
+use mir.ValLaws.{to_z-of_z}
+use Rattle.io.specs.Counts.{clamp_len}
+use Rattle.program.specs.Reason.{negative}
+use Rattle.program.proofs.Hearing.{unread_again, unread_failed, hears_failed, hears_end, hears_part}
+use Rattle.program.proofs.hear.Goals as goal
+
+-- a signed number is handed on by its bits
+bits : (c : goal.Start) → to_z w64 (of_z w64 c.args.got) ≡ c.args.got
+bits c = to_z-of_z w64 c.args.got c.ranges.got
+
+failed_told : (c : goal.After-failed) → c.failed.result ≡ negative c.args.got
+failed_told c = c.failed.ensures ∙ ap negative (bits c)
+
+count_told : (c : goal.After-count-n)
+    → c.count-n.result
+    ≡ clamp_len c.args.got
+    (length c.args.input.now)
+count_told c =
+    let a = c in
+    c.count-n.ensures.1 ∙ ap (λ (z : ℤ). clamp_len z (length a.args.input.now)) (bits a)
+
+pub returns-then-interrupted : goal.returns-then-interrupted
+returns-then-interrupted c = hears_failed _ _ _ _ _ (failed_told c) c.if-failed.true (unread_again _ _ c.if-interrupted.true)
+
+pub returns-then-failed : goal.returns-then-failed
+returns-then-failed c = hears_failed _ _ _ _ _ (failed_told c) c.if-failed.true (unread_failed _ _ c.if-interrupted.false)
+
+pub returns-then-n-eq0 : goal.returns-then-n-eq0
+returns-then-n-eq0 c =
+    let at-finish = c in
+    let at_count = at-finish in
+    let at-failed = at_count in
+    hears_end _ _ _ _ _ (failed_told at-failed) at_count.if-failed.false (count_told at_count)
+    at-finish.if-n-eq0.true at-finish.finish.ensures
+
+pub returns : goal.returns
+returns c =
+    let at_count = c in
+    let at-failed = at_count in
+    hears_part _ _ _ _ _ (failed_told at-failed) at_count.if-failed.false (count_told at_count)
+    c.if-n-eq0.false c.answer.ensures

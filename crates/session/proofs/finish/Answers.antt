@@ -1,0 +1,24 @@
+-- `session::finish` meets its contract. It is a step over what the state lacks.
+-- Assumes nothing.
+use mathlib.Core.Path.{◌≡◌, sym}
+use lib.ListN.{length}
+use lib.Seq.{length-take-le}
+use Rattle.session.proofs.States.{lacking_within}
+use Rattle.session.proofs.Stepping.{step_lacking}
+use borrow.Author.Rules.{rules}
+use Rattle.session.proofs.finish.Goals as goal
+
+size : (c : goal.Start) → length c.args.s.line ≡ 511
+size c = search rules
+
+pub slice_bounds-feed-end : goal.slice_bounds-feed-end
+slice_bounds-feed-end c = lacking_within c.args.s.count c.lacking-end.ensures
+
+pub slice_bounds-step-end : goal.slice_bounds-step-end
+slice_bounds-step-end c = sym (length-take-le _ _ (lacking_within c.args.s.count c.lacking-end.ensures))
+
+pub returns : goal.returns
+returns c =
+    let at-lacking = c in
+    let a = at-lacking in
+    step_lacking a.args.s a.args.space.now (size a) at-lacking.lacking-end.ensures c.step.ensures

@@ -1,0 +1,14 @@
+-- `session::refusal_told` meets its contract. By the kind; the refusal is told in what is left of the space.
+-- Assumes nothing.
+use Rattle.session.proofs.Telling.{wrote_silent, wrote_refusal}
+use Rattle.session.proofs.refusal_told.Goals as goal
+
+pub returns-then-kind-eq-SEND : goal.returns-then-kind-eq-SEND
+returns-then-kind-eq-SEND c = wrote_silent _ _ _ _ c.if-kind-eq-SEND.true
+
+pub returns : goal.returns
+returns c =
+    let at-tell = c in
+    let at-refused = at-tell in
+    let at-if = at-refused in
+    wrote_refusal _ _ _ at-if.requires _ at-if.if-kind-eq-SEND.false at-refused.refused.ensures at-tell.tell.ensures

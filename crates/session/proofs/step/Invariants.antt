@@ -1,0 +1,11 @@
+use mathlib.Core.Path.{◌≡◌, ap, sym, ◌∙◌}
+use Prim.Native.Nat.{◌-◌}
+use lib.ListN.{length}
+use Rattle.session.proofs.Stepping.{Stepping, begins_within, stepping_none, passes_within, stepping_length, stepping_ready}
+use Rattle.session.proofs.step.Given as goal
+
+abbrev pub invariant-loop-before : goal.invariant-loop-before
+invariant-loop-before l = Stepping l.initial.t l.part l.initial.space l.t l.space
+
+abbrev pub decreases-loop-before : goal.decreases-loop-before
+decreases-loop-before l = length l.part - l.t.at

@@ -1,0 +1,13 @@
+-- `stream::add_fault` meets its contract. Its three faults, in their order.
+-- Assumes nothing.
+use Rattle.laws.proofs.Fault.{fault_before, fault_last}
+use Rattle.stream.specs.Answer.{add_number}
+use Rattle.stream.proofs.add_fault.Goals as goal
+
+pub returns : goal.returns
+unfolding add_number
+returns c =
+    let at_last = c in
+    let at-form = at_last in
+    fault_before _ c.first-2.ensures at-form.set_fault-set.ensures
+    (fault_before _ c.first.ensures at-form.stream_fault-form.ensures (fault_last at_last.length_fault-long.ensures))

@@ -1,0 +1,24 @@
+-- `stream::close` meets its contract. By the number of the first fault.
+-- Assumes nothing.
+use mathlib.Core.Path.{sym, ◌∙◌}
+use Rattle.tag.proofs.Answered.{making_refused, making_left, making_written}
+use Rattle.stream.proofs.Number.{closes}
+use Rattle.stream.proofs.close.Goals as goal
+
+pub returns-then-number-ne-DONE : goal.returns-then-number-ne-DONE
+returns-then-number-ne-DONE c = (
+  c.refused.ensures ∙ making_refused _ _ c.close_fault-number.ensures c.if-number-ne-DONE.true,
+  making_left _ _ _ c.close_fault-number.ensures c.if-number-ne-DONE.true,
+)
+
+pub sealed-requires : goal.sealed-requires
+sealed-requires c =
+    let taken = closes _ _ _ (sym c.close_fault-number.ensures ∙ c.if-number-ne-DONE.false) in
+    record { form = taken.form; some = taken.some }
+
+pub returns : goal.returns
+returns c =
+    let sealed = c in
+    let none = sym sealed.close_fault-number.ensures ∙ sealed.if-number-ne-DONE.false in
+    let t = closes _ _ _ none in
+    making_written _ _ _ _ _ none t.set.tag t.size sealed.sealed.ensures c.write.ensures

@@ -1,0 +1,47 @@
+-- `stream::past` meets its contract. The held block filled up, the blocks behind it but the last, and the last, as the law has them.
+-- Assumes nothing.
+use mathlib.Core.Path.{refl}
+use Prim.Native.Nat.{◌-◌, ◌/◌, ◌<◌}
+use native.Mathlib.Omega.{arith}
+use lib.ListN.{length}
+use Rattle.judge.proofs.Held.{Fine, formed_holds}
+use Rattle.stream.proofs.Adding.{added_over, chain_few}
+use borrow.Author.Rules.{rules}
+use Rattle.stream.proofs.past.Goals as goal
+
+fine : (c : goal.Start) → Fine c.args.order c.args.s
+fine c = record { form = c.requires.extends.form; size = search rules }
+
+-- the held bytes are at most a block, and the part goes on where it is full
+full : (c : goal.Start) → 16 - c.args.s.count < length c.args.part.now
+full c = omega (arith, (formed_holds _ _ c.requires.extends.form).most, c.requires.more)
+
+pub overflow_sub-room : goal.overflow_sub-room
+overflow_sub-room c = omega (arith, (formed_holds _ _ c.requires.extends.form).most)
+
+pub overflow_sub-end : goal.overflow_sub-end
+overflow_sub-end c = omega (arith, full c)
+
+pub overflow_sub-end-2 : goal.overflow_sub-end-2
+overflow_sub-end-2 c = omega (arith, full c)
+
+pub overflow_sub-done : goal.overflow_sub-done
+overflow_sub-done c = omega (arith, (formed_holds _ _ c.requires.extends.form).sum)
+
+pub taken-c-requires : goal.taken-c-requires
+taken-c-requires c =
+    let at-start = c in
+    chain_few _ _ at-start.requires.extends.form c.chain_of.ensures
+
+pub returns : goal.returns
+returns c =
+    let at-taken = c in
+    let at-chain = at-taken in
+    let at-start = at-chain in
+    let s = at-start.args.s in
+    let p = at-start.args.part.now in
+    let holds = formed_holds _ _ at-start.requires.extends.form in
+    let more = full at-start in
+    added_over _ _ s p (fine at-start) (16 - s.count) ((length p - (16 - s.count) - 1) / 16)
+    ((s.total - s.count) / 16) (omega (arith, holds.most)) (omega arith) (omega arith) (omega (arith, holds.sum))
+    at-start.requires.filled refl c.read.ensures at-taken.taken-c.ensures at-chain.chain_of.ensures

@@ -1,0 +1,21 @@
+-- `stream::sealed` meets its contract. The engine's closing step, over the stream's chain.
+-- Assumes nothing.
+use mathlib.Core.Path.{◌≡◌}
+use lib.ListN.{length}
+use Rattle.judge.proofs.Held.{Fine}
+use Rattle.stream.proofs.Closing.{closing_sealed}
+use borrow.Author.Rules.{rules}
+use Rattle.stream.proofs.sealed.Goals as goal
+
+-- the stream's arrays have sixteen bytes
+fine : (c : goal.Start) → Fine c.args.keys.order c.args.s
+fine c = record { form = c.requires.form; size = search rules }
+
+value_size : (c : goal.Start) → length c.args.s.value ≡ 16
+value_size c = search rules
+
+pub returns : goal.returns
+returns c =
+    let at-start = c in
+    closing_sealed at-start.args.keys at-start.args.s c.chain_of.ensures c.seal.ensures (fine at-start)
+    (value_size at-start) at-start.requires.some

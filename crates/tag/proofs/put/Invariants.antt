@@ -1,0 +1,10 @@
+use Prim.Native.Nat.{◌-◌}
+use lib.ListN.{length}
+use Rattle.laws.proofs.Laid.{Laid, laid_none, laid_length, front_more, front_slice}
+use Rattle.tag.proofs.put.Given as goal
+
+abbrev pub invariant-loop-i : goal.invariant-loop-i
+invariant-loop-i l = Laid l.x l.initial.slice 0 (length l.initial.slice) l.slice l.i
+
+abbrev pub decreases-loop-i : goal.decreases-loop-i
+decreases-loop-i l = length l.initial.slice - l.i
