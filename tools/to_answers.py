@@ -64,7 +64,7 @@ def turn_paths(text, steps, said):
             return m.group(0)
         parts = [p for p in rest.split(".")[1:] if p != "before"]
         if not parts:
-            return base
+            return m.group(0)
         new = steps.get(norm(parts[0]))
         if new is not None:
             parts[0] = new
@@ -83,6 +83,20 @@ def head_and_body(block):
     return lines[:n], "\n".join(lines[n:])
 
 
+def parameters(where):
+    """The names of a function's parameters: an older Rattle showed some as t1, t2 and so on."""
+    crate, inner = where.split(".proofs.")
+    *modules, name = inner.split(".")
+    for file in ["/".join(modules) + ".rt", "lib.rt", "main.rt"] if modules else ["lib.rt", "main.rt"]:
+        path = f"crates/{crate}/src/{file}"
+        if os.path.isfile(path):
+            with open(path, encoding="utf-8") as f:
+                m = re.search(r"\bfn " + name + r"(?:<[^>]*>)?\(([^)]*)\)", f.read())
+            if m:
+                return re.findall(r"(?:mut )?(\w+)\s*:", m.group(1))
+    return []
+
+
 def convert(path, record, where):
     with open(path, encoding="utf-8") as f:
         text = f.read()
@@ -91,7 +105,7 @@ def convert(path, record, where):
     needs = {norm(a): b for a, b in record["needs"]}
     places = {p[0]: n for p, n in zip(record["places"], record["places_by_name"])}
     loops = {norm(l[0][0]): (l[0][1], l[1], ch) for l, ch in zip(record["loops"], record["changed"])}
-    uses, invariants, answers, head = [], [], [], []
+    uses, invariants, answers, head, named = [], [], [], [], []
     for block in blocks(text):
         comments, body = head_and_body(block)
         if not body:
@@ -151,10 +165,14 @@ def convert(path, record, where):
             answers.append("\n".join(comments + [f"pub {new} : goal.{new}", rest]))
             continue
         body = turn_paths(body, steps, said)
-        body = re.sub(r"\btie\.([\w-]+)((?: (?:invariant|decreases)-[\w-]+)*)", lambda t: "goal." + places.get(t.group(1), "?" + t.group(1)), body)
-        if "goal." in body:
+        at = re.findall(r"\btie\.([\w-]+)", body)
+        body = re.sub(r"\btie\.([\w-]+)((?: (?:invariant|decreases)-[\w-]+)*)", lambda t: places.get(t.group(1), "?" + t.group(1)), body)
+        named += [places.get(p, p) for p in at if places.get(p, p) not in named]
+        if at:
             said.append("a helper at a place: see that it is called at that place")
         answers.append("\n".join(comments + [body]))
+    for n, parameter in enumerate(parameters(where), 1):
+        answers = [re.sub(r"\b(a|args)\.t" + str(n) + r"\b", r"\1." + parameter, a) for a in answers]
     folder = os.path.dirname(path)
     goals = f"use Rattle.{where}"
 
@@ -168,6 +186,7 @@ def convert(path, record, where):
         file = os.path.join(folder, name)
         body = "\n\n".join(items)
         mine = [u for u in uses if used(u, body)]
+        places_used = [f"{goals}.{module}.{{{', '.join(named)}}}"] if named and module == "Goals" else []
         with open(file, "w", encoding="utf-8") as f:
             f.write("\n".join((head if needs_head else []) + mine + [f"{goals}.{module} as goal", "", body]) + "\n")
 

@@ -9,6 +9,6 @@ returns-then-space-lt-ANSWER c = tells_nothing _ _ _ c.if-space-lt-ANSWER.true
 
 pub returns : goal.returns
 returns c =
-    let at-encode = c in
-    let at-bytes = at-encode in
+    let at-encode = c.before.before in
+    let at-bytes = at-encode.before.before.before in
     tells_encoded _ _ _ at-bytes.bytes_of-bytes.ensures at-bytes.if-space-lt-ANSWER.false at-encode.encode.ensures

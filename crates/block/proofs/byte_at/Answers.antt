@@ -8,23 +8,23 @@ use borrow.Author.Rules.{rules}
 use Rattle.block.proofs.byte_at.Goals as goal
 
 -- the length of the block
-whole : (c : goal.Start) → length c.args.t1 ≡ 16
+whole : (c : Start) → length c.args.x ≡ 16
 whole c = search rules
 
 pub returns-then-i-n : goal.returns-then-i-n
 returns-then-i-n c =
-    let l = whole c in
-    sym (joined_front c.args.t1 _ _ _ c.if-i-n.true (omega arith))
+    let l = whole c.before in
+    sym (joined_front c.args.x _ _ _ c.if-i-n.true (omega arith))
 
 pub returns-then-j-part : goal.returns-then-j-part
 returns-then-j-part c =
     let a = c.args in
-    let l = whole c in
-    sym (joined_behind a.t1 a.part.now a.n a.i (search rules) (omega arith))
+    let l = whole c.before.before.before in
+    sym (joined_behind a.x a.part.now a.n a.i (search rules) (omega arith))
 
 pub returns-else-j-part : goal.returns-else-j-part
 returns-else-j-part c =
     let a = c.args in
-    let l = whole c in
-    sym (joined_behind a.t1 a.part.now a.n a.i (search rules) (omega arith)
+    let l = whole c.before.before in
+    sym (joined_behind a.x a.part.now a.n a.i (search rules) (omega arith)
     ∙ get_or-eq_default a.part.now 0 (search rules))

@@ -9,12 +9,12 @@ use Rattle.block.proofs.double.Goals as goal
 
 pub returns-then-x-lt128 : goal.returns-then-x-lt128
 returns-then-x-lt128 c =
-    let x = c.args.t1 in
+    let x = c.args.x in
     c.shift.ensures ∙ sym (mul2_low x (search rules) (search rules))
 
 pub returns : goal.returns
 returns c =
-    let x = c.args.t1 in
+    let x = c.args.x in
     let b : Bytes x = λ j. search rules in
     c.xor.ensures ∙ ap₂ ◌⊕◌ c.shift-2.ensures (c.numbered.ensures ∙ sym reduction_is)
     ∙ sym (mul2_high x (search rules) (search rules) (b 0).fits)

@@ -10,7 +10,7 @@ use borrow.Author.Rules.{rules}
 use Rattle.block.proofs.pad.Goals as goal
 
 pub returns-then-n-ge16 : goal.returns-then-n-ge16
-returns-then-n-ge16 c = pad_full c.args.t1 c.args.n (search rules) (λ j. search rules) (search rules)
+returns-then-n-ge16 c = pad_full c.args.x c.args.n (search rules) (λ j. search rules) (search rules)
 
 pub slice_bounds-read-end : goal.slice_bounds-read-end
 slice_bounds-read-end c = sym (length-take-le _ _ (search rules))
@@ -19,4 +19,4 @@ pub returns : goal.returns
 returns c =
     let a = c.args in
     ap (λ (y : List ℕ). set y a.n 0x80) c.read-r.ensures
-    ∙ pad_short a.t1 a.n (search rules) (λ j. search rules) (search rules)
+    ∙ pad_short a.x a.n (search rules) (λ j. search rules) (search rules)

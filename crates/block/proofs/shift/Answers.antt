@@ -21,7 +21,7 @@ loop-i-preserved c =
 pub returns : goal.returns
 returns c =
     let v = c.loop-i.invariant in
-    let x = c.args.t1 in
+    let x = c.args.x in
     let b : Bytes x = λ j. search rules in
     let n : length x ≡ 16 = v.1 in
     let e : c.loop-i.i ≡ 15 = omega arith in

@@ -16,7 +16,7 @@ pub returns : goal.returns
 unfolding tagging tagged_space
 returns c =
     let made = c.tag.ensures in
-    let at-if1 = c in
+    let at-if1 = c.before.before.before.before.before in
     let e = at-if1.start_fault-fault.ensures in
     let z = at-if1.if-fault-ne-DONE.false in
     (made.0 ∙ is_answered _ _ e z, made.1 ∙ is_answered _ _ e z)

@@ -42,6 +42,6 @@ loop-i-preserved c =
 pub returns : goal.returns
 unfolding walked
 returns c =
-    let h = c in
+    let h = c.before.before in
     walking_all c.loop-i.invariant.3 (search rules)
     ∙ sym (absorbed_room _ _ _ _ _ _ (test_holds h.has_room.ensures h.if-not-has_room.false))

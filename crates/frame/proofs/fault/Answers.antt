@@ -12,10 +12,10 @@ returns-then-n-gt-LONGEST c = frame_long _ _ c.set_fault-set.ensures c.if-set-ne
 
 pub returns-then-n-size : goal.returns-then-n-size
 returns-then-n-size c =
-    let at_set = c in
+    let at_set = c.before.before.before in
     frame_short _ _ at_set.set_fault-set.ensures at_set.if-set-ne-DONE.false (omega arith) (omega arith)
 
 pub returns : goal.returns
 returns c =
-    let at_set = c in
+    let at_set = c.before.before.before in
     frame_none _ _ at_set.set_fault-set.ensures at_set.if-set-ne-DONE.false (omega arith) (omega arith)

@@ -27,8 +27,8 @@ fill-requires c = (test_holds c.is_hex.ensures c.if-not-is_hex.false, search rul
 
 pub returns : goal.returns
 returns c =
-    let at_fill_lem = c in
-    let at-if = at_fill_lem in
+    let at_fill_lem = c.before.before in
+    let at-if = at_fill_lem.before.before in
     let holds = test_holds at-if.is_hex.ensures at-if.if-not-is_hex.false in
     writes_done _ _ _ (number_rest _ _ (search rules) (search rules) (unless_holds 9 holds)) (sym (decoded_length _))
     at_fill_lem.fill.ensures

@@ -15,7 +15,7 @@ bounds-space-i c = front_within c.loop-i.invariant (search rules)
 
 pub loop-i-preserved : goal.loop-i-preserved
 loop-i-preserved c =
-    let at-loop = c in
+    let at-loop = c.before.before.before.before in
     front_put at-loop.loop-i.invariant (search rules)
     (decoded_pair _ at-loop.requires.0 at-loop.loop-i.i (search rules) c.byte.ensures)
 

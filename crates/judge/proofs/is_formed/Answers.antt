@@ -8,13 +8,13 @@ use borrow.Author.Rules.{rules}
 use Rattle.judge.proofs.is_formed.Goals as goal
 
 -- all but the chain value
-mostly : (c : goal.Else-s-fours_for)
+mostly : (c : Else-s-fours_for)
     → let a = c.args in
     Mostly a.d a.s
 mostly c =
-    let at-wholes = c in
-    let at-zeros = at-wholes in
-    let at_held = at-zeros in
+    let at-wholes = c.before.before.before.before.before in
+    let at-zeros = at-wholes.before.before in
+    let at_held = at-zeros.before.before.before in
     record {
       size = search rules;
       count = at-zeros.if-n-held_for.false ∙ at_held.held_for.ensures;
@@ -39,7 +39,7 @@ pub returns-then-s-fours_for : goal.returns-then-s-fours_for
 returns-then-s-fours_for c = not_fours _ _ c.fours_for.ensures c.if-s-fours_for.true
 
 pub returns-then-total-gt16 : goal.returns-then-total-gt16
-returns-then-total-gt16 c = formed_long _ _ (mostly c) (search rules)
+returns-then-total-gt16 c = formed_long _ _ (mostly c.before) (search rules)
 
 pub returns : goal.returns
-returns c = c.zero_from-2.ensures ∙ formed_short _ _ (mostly c) (search rules)
+returns c = c.zero_from-2.ensures ∙ formed_short _ _ (mostly c.before.before.before) (search rules)

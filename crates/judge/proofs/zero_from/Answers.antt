@@ -12,14 +12,14 @@ loop-i-init c = (refl, search rules)
 pub returns-then-a-i-ne0 : goal.returns-then-a-i-ne0
 returns-then-a-i-ne0 c =
     let v = c.loop-i.invariant in
-    sym (v.0 ∙ zeros_stop c.args.t1 c.loop-i.i (search rules) c.if-a-i-ne0.true)
+    sym (v.0 ∙ zeros_stop c.args.a c.loop-i.i (search rules) c.if-a-i-ne0.true)
 
 pub loop-i-preserved : goal.loop-i-preserved
 loop-i-preserved c =
     let v = c.loop-i.invariant in
-    (v.0 ∙ zeros_more c.args.t1 c.loop-i.i (search rules) c.if-a-i-ne0.false, v.1)
+    (v.0 ∙ zeros_more c.args.a c.loop-i.i (search rules) c.if-a-i-ne0.false, v.1)
 
 pub returns : goal.returns
 returns c =
     let v = c.loop-i.invariant in
-    zeros_end c.args.t1 c.loop-i.i (search rules) ∙ sym v.0
+    zeros_end c.args.a c.loop-i.i (search rules) ∙ sym v.0

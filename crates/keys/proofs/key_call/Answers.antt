@@ -10,7 +10,7 @@ use Rattle.keys.proofs.Number.{number_faultless, answer_refused, answer_done, me
 use Rattle.keys.proofs.key_call.Goals as goal
 
 -- past the test the number is 0
-no_number : (c : goal.Else-number-ne-DONE)
+no_number : (c : Else-number-ne-DONE)
     → key_number c.args.order c.args.bits
     (length c.args.k.now) (length c.args.l.now)
     ≡ 0
@@ -28,12 +28,12 @@ pub overflow_cast-order : goal.overflow_cast-order
 overflow_cast-order c = record { fits = omega (arith, (number_faultless _ _ _ _ (no_number c)).order_fits) }
 
 pub overflow_cast-bits : goal.overflow_cast-bits
-overflow_cast-bits c = record { fits = omega (arith, (number_faultless _ _ _ _ (no_number c)).tag_fits) }
+overflow_cast-bits c = record { fits = omega (arith, (number_faultless _ _ _ _ (no_number c.before)).tag_fits) }
 
 pub done-requires : goal.done-requires
 done-requires c =
     let a = c.args in
-    let f = number_faultless _ _ _ _ (no_number c) in
+    let f = number_faultless _ _ _ _ (no_number c.before.before.before.before) in
     let m = c.meant-d.ensures in
     let w : Within 5 c.meant-d.result =
     meant_within m (record { low = omega arith; high = omega arith }) f.order_fits in
@@ -42,7 +42,7 @@ done-requires c =
 pub returns : goal.returns
 returns c =
     let a = c.args in
-    let z = no_number c in
+    let z = no_number c.before.before.before.before.before in
     let f = number_faultless _ _ _ _ z in
     c.done.ensures
     ∙ answer_done a.order a.bits a.k.now a.l.now z c.meant-d.ensures

@@ -16,7 +16,7 @@ loop-i-init c = (search rules, clear_none _)
 pub loop-i-preserved : goal.loop-i-preserved
 loop-i-preserved c =
     let l = c.loop-i in
-    let a = c in
+    let a = c.before.before.before in
     let at = a.args.at in
     let part = a.args.part.now in
     let inside : l.i < length (drop at part) = omega (arith, length-drop at part, c.loop-i-test.true, a.requires) in

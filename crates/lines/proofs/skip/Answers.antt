@@ -12,7 +12,7 @@ use Rattle.lines.proofs.skip.Goals as goal
 pub loop-at-init : goal.loop-at-init
 loop-at-init c = leads_none _ _
 
-room : (c : goal.In-loop-at) → c.loop-at.i + 16 ≤ length c.args.part.now
+room : (c : In-loop-at) → c.loop-at.i + 16 ≤ length c.args.part.now
 room c =
     let part = c.args.part.now in
     let h = leb-true 16 (length part - c.loop-at.i) (sym c.has_sixteen.ensures ∙ c.loop-at-test.true) in
@@ -25,14 +25,14 @@ pub returns-then-not-clear : goal.returns-then-not-clear
 returns-then-not-clear c = c.loop-at.invariant.same
 
 pub overflow_add-i : goal.overflow_add-i
-overflow_add-i c = let h = room c in search rules
+overflow_add-i c = let h = room c.before.before in search rules
 
 pub loop-at-smaller : goal.loop-at-smaller
-loop-at-smaller c = omega (arith, room c)
+loop-at-smaller c = omega (arith, room c.before.before)
 
 pub loop-at-preserved : goal.loop-at-preserved
 loop-at-preserved c =
-    let at-if = c in
+    let at-if = c.before.before in
     leads_past at-if.loop-at.invariant 16 (room at-if) (c.clear.ensures (not-false _ c.if-not-clear.false))
 
 pub returns : goal.returns

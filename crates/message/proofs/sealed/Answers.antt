@@ -12,8 +12,8 @@ slice_bounds-absorb-end c = sym (length-take-le _ _ (search rules))
 
 pub returns : goal.returns
 returns c =
-    let at-absorb = c in
-    let at-start = at-absorb in
+    let at-absorb = c.before.before.before in
+    let at-start = at-absorb.before.before.before.before.before.before.before.before.before in
     let k = at-start.args.keys in
     let M = at-start.args.message.now in
     message_sealed k M at-start.requires.0 at-start.requires.1 c.seal.ensures

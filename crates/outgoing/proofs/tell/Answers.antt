@@ -8,7 +8,7 @@ use borrow.Author.Rules.{rules}
 use Rattle.outgoing.proofs.tell.Goals as goal
 
 -- there is room for a line feed behind the characters
-within : (c : goal.After-lay-end) → c.lay-end.result < length c.args.space.now
+within : (c : After-lay-end) → c.lay-end.result < length c.args.space.now
 within c = fed_within _ _ _ c.if-space-lt-MOST_TEXT.false c.lay-end.ensures
 
 pub returns-then-space-lt-MOST_TEXT : goal.returns-then-space-lt-MOST_TEXT
@@ -16,15 +16,15 @@ returns-then-space-lt-MOST_TEXT c = tells_nothing _ _ _ c.if-space-lt-MOST_TEXT.
 
 pub bounds-space-end : goal.bounds-space-end
 bounds-space-end c =
-    let h = within c in
+    let h = within c.before.before in
     search rules
 
 pub overflow_add-result : goal.overflow_add-result
 overflow_add-result c =
-    let h = within c in
+    let h = within c.before.before in
     search rules
 
 pub returns : goal.returns
 returns c =
-    let at-lay = c in
+    let at-lay = c.before.before in
     tells_fed _ _ _ at-lay.if-space-lt-MOST_TEXT.false at-lay.lay-end.ensures

@@ -16,24 +16,24 @@ use Rattle.program.proofs.Hearing.{unwritten_told}
 use borrow.Author.Rules.{rules}
 use Rattle.program.proofs.answer.Goals as goal
 
-room : (c : goal.After-step-a)
+room : (c : After-step-a)
     → width c.args.s.kind ≤ length c.loop-at.space
 room c =
-    let at-loop = c in
+    let at-loop = c.before.before.before.before in
     omega (arith, at-loop.loop-at.invariant.0, width_most at-loop.args.s.kind)
 
-more : (c : goal.After-step-a)
+more : (c : After-step-a)
     → suc c.loop-at.at
     ≤ length c.args.part.now
 more c = c.loop-at-test.true
 
-fits : (c : goal.After-step-a) → Fits w64 (c.loop-at.at + c.step-a.result.taken)
+fits : (c : After-step-a) → Fits w64 (c.loop-at.at + c.step-a.result.taken)
 fits c =
     let l = c.loop-at in
     let h = step_most l.invariant.1 l.space (room c) (more c) c.step-a.ensures in
     search rules
 
-within : (c : goal.After-step-a) → c.step-a.result.written ≤ length c.step-a.new.1.1.0
+within : (c : After-step-a) → c.step-a.result.written ≤ length c.step-a.new.1.1.0
 within c =
     let l = c.loop-at in
     step_within l.invariant.1 l.space (room c) (more c) c.step-a.ensures
@@ -42,26 +42,26 @@ pub loop-at-init : goal.loop-at-init
 loop-at-init c = (search rules, answering_none _ _ (search rules))
 
 pub slice_bounds-space-end : goal.slice_bounds-space-end
-slice_bounds-space-end c = within c
+slice_bounds-space-end c = within c.before.before
 
 pub slice_bounds-write_all-end : goal.slice_bounds-write_all-end
-slice_bounds-write_all-end c = sym (length-take-le _ _ (within c))
+slice_bounds-write_all-end c = sym (length-take-le _ _ (within c.before.before.before))
 
 pub returns-then-not-write_all : goal.returns-then-not-write_all
 returns-then-not-write_all c = inr (unwritten_told _)
 
 pub overflow_add-at : goal.overflow_add-at
-overflow_add-at c = fits c
+overflow_add-at c = fits c.before.before.before.before.before.before
 
 pub loop-at-smaller : goal.loop-at-smaller
 loop-at-smaller c =
-    let at-step = c in
+    let at-step = c.before.before.before.before.before.before in
     let l = at-step.loop-at in
     omega (arith, step_some l.invariant.1 l.space (room at-step) (more at-step) at-step.step-a.ensures, more at-step)
 
 pub loop-at-preserved : goal.loop-at-preserved
 loop-at-preserved c =
-    let at-step = c in
+    let at-step = c.before.before.before.before.before.before in
     let l = at-step.loop-at in (
       l.invariant.0 ∙ sym (step_length l.invariant.1 l.space (room at-step) (more at-step) at-step.step-a.ensures),
       answering_more l.invariant.1 l.space (room at-step) (more at-step) at-step.step-a.ensures,
@@ -69,5 +69,5 @@ loop-at-preserved c =
 
 pub returns : goal.returns
 returns c =
-    let at-loop = c in
+    let at-loop = c.before.before in
     inl (answering_all at-loop.loop-at.invariant.1 c.loop-at-test.false at-loop.requires c.told.ensures)

@@ -23,14 +23,14 @@ slice_bounds-write_all-end-2 c =
 
 pub returns-then-not-write_all : goal.returns-then-not-write_all
 returns-then-not-write_all c =
-    let at-finish = c in
+    let at-finish = c.before.before.before.before.before in
     let a = at-finish.args in
     (inr (unwritten_told a.s), ended_space_is a.s a.space.now at-finish.finish-a.ensures)
 
 pub returns : goal.returns
 returns c =
-    let at-finish = c in
-    let at-reason = at-finish in
+    let at-finish = c.before.before.before.before.before.before in
+    let at-reason = at-finish.before.before in
     let a = at-reason.args in
     let p = at-finish.finish-a.ensures in
     (inl (ended_told a.s a.space.now p at-reason.end_reason-reason.ensures), ended_space_is a.s a.space.now p)

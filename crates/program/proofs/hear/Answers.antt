@@ -12,37 +12,37 @@ use Rattle.program.proofs.Hearing.{unread_again, unread_failed, hears_failed, he
 use Rattle.program.proofs.hear.Goals as goal
 
 -- a signed number is handed on by its bits
-bits : (c : goal.Start) → to_z w64 (of_z w64 c.args.got) ≡ c.args.got
+bits : (c : Start) → to_z w64 (of_z w64 c.args.got) ≡ c.args.got
 bits c = to_z-of_z w64 c.args.got c.ranges.got
 
-failed_told : (c : goal.After-failed) → c.failed.result ≡ negative c.args.got
-failed_told c = c.failed.ensures ∙ ap negative (bits c)
+failed_told : (c : After-failed) → c.failed.result ≡ negative c.args.got
+failed_told c = c.failed.ensures ∙ ap negative (bits c.before.before.before)
 
-count_told : (c : goal.After-count-n)
+count_told : (c : After-count-n)
     → c.count-n.result
     ≡ clamp_len c.args.got
     (length c.args.input.now)
 count_told c =
-    let a = c in
+    let a = c.before.before.before.before.before in
     c.count-n.ensures.1 ∙ ap (λ (z : ℤ). clamp_len z (length a.args.input.now)) (bits a)
 
 pub returns-then-interrupted : goal.returns-then-interrupted
-returns-then-interrupted c = hears_failed _ _ _ _ _ (failed_told c) c.if-failed.true (unread_again _ _ c.if-interrupted.true)
+returns-then-interrupted c = hears_failed _ _ _ _ _ (failed_told c.before.before) c.if-failed.true (unread_again _ _ c.if-interrupted.true)
 
 pub returns-then-failed : goal.returns-then-failed
-returns-then-failed c = hears_failed _ _ _ _ _ (failed_told c) c.if-failed.true (unread_failed _ _ c.if-interrupted.false)
+returns-then-failed c = hears_failed _ _ _ _ _ (failed_told c.before.before) c.if-failed.true (unread_failed _ _ c.if-interrupted.false)
 
 pub returns-then-n-eq0 : goal.returns-then-n-eq0
 returns-then-n-eq0 c =
-    let at-finish = c in
-    let at_count = at-finish in
-    let at-failed = at_count in
+    let at-finish = c.before.before in
+    let at_count = at-finish.before.before.before in
+    let at-failed = at_count.before.before in
     hears_end _ _ _ _ _ (failed_told at-failed) at_count.if-failed.false (count_told at_count)
     at-finish.if-n-eq0.true at-finish.finish.ensures
 
 pub returns : goal.returns
 returns c =
-    let at_count = c in
-    let at-failed = at_count in
+    let at_count = c.before.before.before in
+    let at-failed = at_count.before.before in
     hears_part _ _ _ _ _ (failed_told at-failed) at_count.if-failed.false (count_told at_count)
     c.if-n-eq0.false c.answer.ensures

@@ -11,7 +11,7 @@ use borrow.Author.Rules.{rules}
 use Rattle.program.proofs.turns.Goals as goal
 
 -- the space has room for a last text
-room : (c : goal.At-loop-left) → width c.loop-left.s.kind ≤ length c.loop-left.space
+room : (c : At-loop-left) → width c.loop-left.s.kind ≤ length c.loop-left.space
 room c = omega (arith, c.loop-left.invariant.1, width_most c.loop-left.s.kind)
 
 pub loop-left-init : goal.loop-left-init
@@ -19,30 +19,30 @@ loop-left-init c = (c.large_buffer-input.ensures, c.buffer-space.ensures, λ r q
 
 pub returns-then-reason-ne-GOES_ON : goal.returns-then-reason-ne-GOES_ON
 returns-then-reason-ne-GOES_ON c =
-    let at-hear = c in
-    let at_test = at-hear in
+    let at-hear = c.before.before.before in
+    let at_test = at-hear.before.before.before.before.before.before.before in
     let l = at_test.loop-left in
-    let at-begin = at_test in
+    let at-begin = at_test.before.before in
     let some : 0 < l.left = omega (arith, at_test.loop-left-test.true) in (
       at-begin.begin-s.result,
       at-begin.begin-s.ensures,
-      l.invariant.2 _ (runs_stop _ _ _ _ _ (room at_test) at-hear.hear-h.ensures l.left some c.if-reason-ne-GOES_ON.true),
+      l.invariant.2 _ (runs_stop _ _ _ _ _ (room at_test.before) at-hear.hear-h.ensures l.left some c.if-reason-ne-GOES_ON.true),
     )
 
 pub loop-left-preserved : goal.loop-left-preserved
 loop-left-preserved c =
-    let at-hear = c in
-    let at_test = at-hear in
+    let at-hear = c.before.before.before in
+    let at_test = at-hear.before.before.before.before.before.before.before in
     let l = at_test.loop-left in
     let some : 0 < l.left = omega (arith, at_test.loop-left-test.true) in (
       search rules,
       search rules,
-      λ r q. l.invariant.2 r (runs_more _ _ _ _ _ (room at_test) at-hear.hear-h.ensures l.left r some c.if-reason-ne-GOES_ON.false q),
+      λ r q. l.invariant.2 r (runs_more _ _ _ _ _ (room at_test.before) at-hear.hear-h.ensures l.left r some c.if-reason-ne-GOES_ON.false q),
     )
 
 pub returns : goal.returns
 returns c =
     let l = c.loop-left in
-    let at-begin = c in
+    let at-begin = c.before.before in
     let none : l.left ≡ 0 = omega (arith, c.loop-left-test.false) in
     (at-begin.begin-s.result, at-begin.begin-s.ensures, l.invariant.2 _ (runs_none l.left l.s none))

@@ -8,7 +8,7 @@ use Rattle.session.proofs.Stepping.{step_lacking}
 use borrow.Author.Rules.{rules}
 use Rattle.session.proofs.finish.Goals as goal
 
-size : (c : goal.Start) → length c.args.s.line ≡ 511
+size : (c : Start) → length c.args.s.line ≡ 511
 size c = search rules
 
 pub slice_bounds-feed-end : goal.slice_bounds-feed-end
@@ -19,6 +19,6 @@ slice_bounds-step-end c = sym (length-take-le _ _ (lacking_within c.args.s.count
 
 pub returns : goal.returns
 returns c =
-    let at-lacking = c in
-    let a = at-lacking in
+    let at-lacking = c.before.before.before.before.before in
+    let a = at-lacking.before.before in
     step_lacking a.args.s a.args.space.now (size a) at-lacking.lacking-end.ensures c.step.ensures

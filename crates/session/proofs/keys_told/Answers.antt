@@ -8,5 +8,5 @@ returns-then-made-eq-DONE c = keys_accepted _ _ _ _ c.if-made-eq-DONE.true
 
 pub returns : goal.returns
 returns c =
-    let at_told = c in
+    let at_told = c.before.before in
     keys_refused _ _ _ _ at_told.if-made-eq-DONE.false at_told.refusal_told-written.ensures

@@ -11,26 +11,26 @@ use Rattle.session.proofs.Turning.{gathered_within, told_within, turned_part, tu
 use borrow.Author.Rules.{rules}
 use Rattle.session.proofs.take_turn.Goals as goal
 
-stop_fits : (c : goal.Else-end-part) → Fits w64 (c.find-end.result + 1)
+stop_fits : (c : Else-end-part) → Fits w64 (c.find-end.result + 1)
 stop_fits c = search rules
 
-out_fits : (c : goal.?After-line-told)
+out_fits : (c : ?After-line-told)
     → Fits w64 (c.args.out
     + c.line_told-t.result.written)
 out_fits c =
-    let a = c in
+    let a = c.before.before.before.before.before.before.before.before.before.before.before.before in
     let h = told_within _ _ _ _ _ c.line_told-t.ensures a.requires.room in
     search rules
 
 pub slice_bounds-gather-end : goal.slice_bounds-gather-end
 slice_bounds-gather-end c =
-    let a = c in
+    let a = c.before.before.before.before.before in
     (line_within _ _ c.find-end.ensures (omega (arith, a.requires.more))).1
 
 pub returns-then-end-part : goal.returns-then-end-part
 returns-then-end-part c =
-    let at-find = c in
-    let a = at-find in
+    let at-find = c.before.before.before.before in
+    let a = at-find.before.before.before.before.before in
     turned_part _ _ _ _ _ a.requires at-find.find-end.ensures c.gather-g.ensures (search rules)
 
 pub slice_bounds-line-end : goal.slice_bounds-line-end
@@ -43,16 +43,16 @@ pub line_told-t-requires : goal.line_told-t-requires
 line_told-t-requires c = c.requires.room
 
 pub overflow_add-result : goal.overflow_add-result
-overflow_add-result c = stop_fits c
+overflow_add-result c = stop_fits c.before.before.before.before.before.before
 
 pub overflow_add-result-2 : goal.overflow_add-result-2
-overflow_add-result-2 c = out_fits c
+overflow_add-result-2 c = out_fits c.before.before.before.before
 
 pub returns : goal.returns
 returns c =
-    let at_told = c in
-    let at-gather = at_told in
-    let at-find = at-gather in
-    let a = at-find in
+    let at_told = c.before.before.before.before in
+    let at-gather = at_told.before.before.before.before.before in
+    let at-find = at-gather.before.before in
+    let a = at-find.before.before.before.before.before in
     turned_line _ _ _ _ _ a.requires at-find.find-end.ensures at-gather.gather-g.ensures at_told.if-end-part.false
     at_told.line_told-t.ensures c.fresh-state.ensures

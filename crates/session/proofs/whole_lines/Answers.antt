@@ -13,12 +13,12 @@ use borrow.Author.Rules.{rules}
 use Rattle.session.proofs.whole_lines.Goals as goal
 
 -- there is more to take, and room for another text
-room : (c : goal.In-loop-keys)
+room : (c : In-loop-keys)
     → (c.loop-keys.i < length c.args.part.now)
     × (c.loop-keys.o + width c.args.kind
     ≤ length c.loop-keys.space)
 room c =
-    let at_width = c in
+    let at_width = c.before.before.before in
     let k = at_width.args.kind in
     let e = at_width.width-most.ensures in
     let some : 1 ≤ at_width.width-most.result = omega (arith, e, width_some k) in
@@ -26,19 +26,19 @@ room c =
     (f.0, omega (arith, f.1, e))
 
 -- the line ends within the part
-within : (c : goal.After-find-stop)
+within : (c : After-find-stop)
     → (c.loop-keys.i ≤ c.find-stop.result)
     × (c.find-stop.result ≤ length c.args.part.now)
-within c = line_within _ _ c.find-stop.ensures (omega (arith, (room c).0))
+within c = line_within _ _ c.find-stop.ensures (omega (arith, (room c.before).0))
 
-stop_fits : (c : goal.Else-stop-part) → Fits w64 (c.find-stop.result + 1)
+stop_fits : (c : Else-stop-part) → Fits w64 (c.find-stop.result + 1)
 stop_fits c = search rules
 
-out_fits : (c : goal.After-tell-o)
+out_fits : (c : After-tell-o)
     → Fits w64 (c.loop-keys.o + c.tell-o.result)
 out_fits c =
-    let at-loop = c in
-    let h = line_told_within _ _ _ _ _ c.tell-o.ensures (room c).1 in
+    let at-loop = c.before.before.before.before.before.before.before in
+    let h = line_told_within _ _ _ _ _ c.tell-o.ensures (room c.before.before.before.before.before).1 in
     let size = moves_length turn_of (tell_of _) (width _) _ at-loop.loop-keys.invariant in
     search rules
 
@@ -47,7 +47,7 @@ loop-keys-init c = spans_none _ _ _ _ _ _ c.requires
 
 pub goes-requires : goal.goes-requires
 goes-requires c =
-    let at_width = c in
+    let at_width = c.before in
     omega (arith, at_width.width-most.ensures, width_some at_width.args.kind)
 
 pub shape_of-space-then-stop-part : goal.shape_of-space-then-stop-part
@@ -57,31 +57,31 @@ pub returns-then-stop-part : goal.returns-then-stop-part
 returns-then-stop-part c = c.loop-keys.invariant
 
 pub slice_bounds-tell-start : goal.slice_bounds-tell-start
-slice_bounds-tell-start c = (within c).0
+slice_bounds-tell-start c = (within c.before).0
 
 pub slice_bounds-tell-end : goal.slice_bounds-tell-end
-slice_bounds-tell-end c = (within c).1
+slice_bounds-tell-end c = (within c.before).1
 
 pub tell-o-requires : goal.tell-o-requires
-tell-o-requires c = (room c).1
+tell-o-requires c = (room c.before.before.before.before).1
 
 pub overflow_add-o : goal.overflow_add-o
-overflow_add-o c = out_fits c
+overflow_add-o c = out_fits c.before.before
 
 pub overflow_add-i : goal.overflow_add-i
-overflow_add-i c = stop_fits c
+overflow_add-i c = stop_fits c.before.before.before.before.before
 
 pub loop-keys-smaller : goal.loop-keys-smaller
 loop-keys-smaller c =
-    let at-find = c in
-    omega (arith, (within at-find).0, (room at-find).0)
+    let at-find = c.before.before.before.before.before.before in
+    omega (arith, (within at-find).0, (room at-find.before).0)
 
 pub loop-keys-preserved : goal.loop-keys-preserved
 loop-keys-preserved c =
-    let at-tell = c in
-    let at-if = at-tell in
-    let at-find = at-if in
-    spans_line _ _ _ at-find.loop-keys.invariant (room at-find).1 at-find.find-stop.ensures at-if.if-stop-part.false
+    let at-tell = c.before.before in
+    let at-if = at-tell.before.before.before in
+    let at-find = at-if.before in
+    spans_line _ _ _ at-find.loop-keys.invariant (room at-find.before).1 at-find.find-stop.ensures at-if.if-stop-part.false
     at-tell.tell-o.ensures
 
 pub shape_of-space : goal.shape_of-space

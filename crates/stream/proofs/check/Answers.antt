@@ -15,7 +15,7 @@ sealed-requires c =
 
 pub returns : goal.returns
 returns c =
-    let sealed = c in
+    let sealed = c.before in
     let none = sym sealed.close_fault-number.ensures ∙ sealed.if-number-ne-DONE.false in
     let t = closes _ _ _ none in
     checking_checked _ _ _ _ _ none t.set.tag t.size sealed.sealed.ensures c.compare.ensures

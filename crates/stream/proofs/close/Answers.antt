@@ -18,7 +18,7 @@ sealed-requires c =
 
 pub returns : goal.returns
 returns c =
-    let sealed = c in
+    let sealed = c.before.before.before.before in
     let none = sym sealed.close_fault-number.ensures ∙ sealed.if-number-ne-DONE.false in
     let t = closes _ _ _ none in
     making_written _ _ _ _ _ none t.set.tag t.size sealed.sealed.ensures c.write.ensures

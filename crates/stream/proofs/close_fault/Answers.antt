@@ -7,8 +7,8 @@ use Rattle.stream.proofs.close_fault.Goals as goal
 pub returns : goal.returns
 unfolding close_number
 returns c =
-    let at_last = c in
-    let at_size = at_last in
+    let at_last = c.before.before.before in
+    let at_size = at_last.before.before in
     fault_before _ c.first-3.ensures at_size.set_fault-set.ensures
     (fault_before _ c.first-2.ensures at_size.size_fault-size.ensures
     (fault_before _ c.first.ensures at_last.stream_fault-form.ensures

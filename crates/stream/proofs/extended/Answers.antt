@@ -8,7 +8,7 @@ use Rattle.stream.proofs.Adding.{added_room}
 use borrow.Author.Rules.{rules}
 use Rattle.stream.proofs.extended.Goals as goal
 
-fine : (c : goal.Start) → Fine c.args.order c.args.s
+fine : (c : Start) → Fine c.args.order c.args.s
 fine c = record { form = c.requires.form; size = search rules }
 
 pub overflow_sub-n : goal.overflow_sub-n
@@ -16,7 +16,7 @@ overflow_sub-n c = omega (arith, (formed_holds _ _ c.requires.form).most)
 
 pub past-requires : goal.past-requires
 past-requires c =
-    let at-start = c in
+    let at-start = c.before.before.before.before in
     record {
       extends = at-start.requires;
       filled = c.join-first.ensures;
@@ -28,7 +28,7 @@ returns-then-part-n c = c.past.ensures
 
 pub returns : goal.returns
 returns c =
-    let at-start = c in
+    let at-start = c.before.before.before.before.before.before in
     let holds = formed_holds _ _ at-start.requires.form in
     let fits : at-start.args.s.count + length at-start.args.part.now ≤ 16 =
     omega (arith, holds.most, c.if-part-n.false) in

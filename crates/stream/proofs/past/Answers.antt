@@ -9,35 +9,35 @@ use Rattle.stream.proofs.Adding.{added_over, chain_few}
 use borrow.Author.Rules.{rules}
 use Rattle.stream.proofs.past.Goals as goal
 
-fine : (c : goal.Start) → Fine c.args.order c.args.s
+fine : (c : Start) → Fine c.args.order c.args.s
 fine c = record { form = c.requires.extends.form; size = search rules }
 
 -- the held bytes are at most a block, and the part goes on where it is full
-full : (c : goal.Start) → 16 - c.args.s.count < length c.args.part.now
+full : (c : Start) → 16 - c.args.s.count < length c.args.part.now
 full c = omega (arith, (formed_holds _ _ c.requires.extends.form).most, c.requires.more)
 
 pub overflow_sub-room : goal.overflow_sub-room
 overflow_sub-room c = omega (arith, (formed_holds _ _ c.requires.extends.form).most)
 
 pub overflow_sub-end : goal.overflow_sub-end
-overflow_sub-end c = omega (arith, full c)
+overflow_sub-end c = omega (arith, full c.before)
 
 pub overflow_sub-end-2 : goal.overflow_sub-end-2
-overflow_sub-end-2 c = omega (arith, full c)
+overflow_sub-end-2 c = omega (arith, full c.before)
 
 pub overflow_sub-done : goal.overflow_sub-done
 overflow_sub-done c = omega (arith, (formed_holds _ _ c.requires.extends.form).sum)
 
 pub taken-c-requires : goal.taken-c-requires
 taken-c-requires c =
-    let at-start = c in
+    let at-start = c.before.before.before.before in
     chain_few _ _ at-start.requires.extends.form c.chain_of.ensures
 
 pub returns : goal.returns
 returns c =
-    let at-taken = c in
-    let at-chain = at-taken in
-    let at-start = at-chain in
+    let at-taken = c.before.before.before in
+    let at-chain = at-taken.before.before in
+    let at-start = at-chain.before.before.before in
     let s = at-start.args.s in
     let p = at-start.args.part.now in
     let holds = formed_holds _ _ at-start.requires.extends.form in

@@ -8,14 +8,14 @@ use borrow.Author.Rules.{rules}
 use Rattle.stream.proofs.sealed.Goals as goal
 
 -- the stream's arrays have sixteen bytes
-fine : (c : goal.Start) → Fine c.args.keys.order c.args.s
+fine : (c : Start) → Fine c.args.keys.order c.args.s
 fine c = record { form = c.requires.form; size = search rules }
 
-value_size : (c : goal.Start) → length c.args.s.value ≡ 16
+value_size : (c : Start) → length c.args.s.value ≡ 16
 value_size c = search rules
 
 pub returns : goal.returns
 returns c =
-    let at-start = c in
+    let at-start = c.before.before.before.before.before.before.before in
     closing_sealed at-start.args.keys at-start.args.s c.chain_of.ensures c.seal.ensures (fine at-start)
     (value_size at-start) at-start.requires.some

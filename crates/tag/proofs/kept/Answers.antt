@@ -12,18 +12,18 @@ use Rattle.tag.proofs.kept.Goals as goal
 pub returns-then-p-ge-LONGEST_TAG : goal.returns-then-p-ge-LONGEST_TAG
 returns-then-p-ge-LONGEST_TAG c =
     let a = c.args in
-    cut_all a.p a.t1 (search rules) (search rules) (λ j. search rules)
+    cut_all a.p a.x (search rules) (search rules) (λ j. search rules)
 
 pub loop-i-init : goal.loop-i-init
 loop-i-init c = entered_none _ _ _ (search rules)
 
 pub loop-i-preserved : goal.loop-i-preserved
 loop-i-preserved c =
-    let a = c in
+    let a = c.before.before.before in
     entered_more a.loop-i.invariant _ (search rules)
-    (c.kept_byte.ensures ∙ ap (λ (k : ℕ). front k (get_or a.args.t1 a.loop-i.i 0)) c.bits_from.ensures)
+    (c.kept_byte.ensures ∙ ap (λ (k : ℕ). front k (get_or a.args.x a.loop-i.i 0)) c.bits_from.ensures)
 
 pub returns : goal.returns
 returns c =
     let a = c.args in
-    entered_all c.loop-i.invariant (search rules) ∙ cut_table a.p a.t1 (search rules) (λ j. search rules)
+    entered_all c.loop-i.invariant (search rules) ∙ cut_table a.p a.x (search rules) (λ j. search rules)

@@ -15,14 +15,14 @@ returns-then-number-ne-DONE c = (
 
 pub put-requires : goal.put-requires
 put-requires c =
-    let at-if = c in
+    let at-if = c.before.before.before in
     let s = suits _ _ (sym at-if.fault-number.ensures ∙ at-if.if-number-ne-DONE.false) in
     search rules
 
 pub returns : goal.returns
 returns c =
-    let at-put = c in
-    let at-if = at-put in
+    let at-put = c.before.before in
+    let at-if = at-put.before.before.before.before in
     let none = sym at-if.fault-number.ensures ∙ at-if.if-number-ne-DONE.false in
     let s = suits _ _ none in
     let a = at-if.args in

@@ -12,7 +12,7 @@ use borrow.Author.Rules.{rules}
 use Rattle.writer.proofs.write.Goals as goal
 
 -- no fault was found
-none : (c : goal.Else-number-ne-DONE)
+none : (c : Else-number-ne-DONE)
     → write_number c.args.keys (length c.args.space.now)
     (length c.args.body.now) ≡ 0
 none c = sym c.fault-number.ensures ∙ c.if-number-ne-DONE.false
@@ -22,46 +22,46 @@ returns-then-number-ne-DONE c = write_refused _ _ _ c.fault-number.ensures c.if-
 
 pub slice_bounds-made-end : goal.slice_bounds-made-end
 slice_bounds-made-end c =
-    let at_size = c in
-    let f = (writes_told _ _ _ (none at_size)).1 in
+    let at_size = c.before.before.before.before in
+    let f = (writes_told _ _ _ (none at_size.before)).1 in
     omega (arith, at_size.size-n.ensures, f.set.tag.high)
 
 pub slice_bounds-append-end : goal.slice_bounds-append-end
 slice_bounds-append-end c =
-    let at_size = c in
-    let f = (writes_told _ _ _ (none at_size)).1 in
+    let at_size = c.before.before.before.before.before in
+    let f = (writes_told _ _ _ (none at_size.before)).1 in
     sym (length-take-le _ _ (omega (arith, at_size.size-n.ensures, f.set.tag.high)))
 
 pub slice_bounds-append-count : goal.slice_bounds-append-count
 slice_bounds-append-count c =
-    let at_size = c in
-    let f = writes_told _ _ _ (none at_size) in
+    let at_size = c.before.before.before.before.before in
+    let f = writes_told _ _ _ (none at_size.before) in
     let r = f.0 in
     let m = f.1.most in
     search rules
 
 pub slice_bounds-append-start : goal.slice_bounds-append-start
 slice_bounds-append-start c =
-    let at_size = c in
-    let f = writes_told _ _ _ (none at_size) in
+    let at_size = c.before.before.before.before.before in
+    let f = writes_told _ _ _ (none at_size.before) in
     let r = f.0 in
     let m = f.1.most in
     search rules
 
 pub overflow_add-result : goal.overflow_add-result
 overflow_add-result c =
-    let at_size = c in
-    let f = (writes_told _ _ _ (none at_size)).1 in
+    let at_size = c.before.before.before.before.before.before.before.before.before.before in
+    let f = (writes_told _ _ _ (none at_size.before)).1 in
     let m = f.most in
     let n = at_size.size-n.ensures in
     search rules
 
 pub returns : goal.returns
 returns c =
-    let at-append = c in
-    let at-encode = at-append in
-    let at_size = at-encode in
-    let f = (writes_told _ _ _ (none at_size)).1 in
+    let at-append = c.before.before.before in
+    let at-encode = at-append.before.before.before.before.before in
+    let at_size = at-encode.before.before in
+    let f = (writes_told _ _ _ (none at_size.before)).1 in
     let few : at_size.size-n.result ≤ 16 = omega (arith, at_size.size-n.ensures, f.set.tag.high) in
-    written_whole _ _ _ (none at_size) at_size.size-n.ensures refl (length-take-le _ _ few) (search rules)
+    written_whole _ _ _ (none at_size.before) at_size.size-n.ensures refl (length-take-le _ _ few) (search rules)
     at-encode.encode.ensures at-append.append-t.ensures

@@ -21,7 +21,7 @@ pub returns : goal.returns
 returns c =
     let i = c.loop-i.invariant in
     let w = c.loop-i.w in
-    let h : length c.args.t1 ≡ 16 = i.0 in
+    let h : length c.args.key ≡ 16 = i.0 in
     let b = i.1.within in
     let e : 16 ≡ c.loop-i.i = omega arith in
     ap (λ (n : ℕ). take n w) e ∙ copied_all i.1 (omega arith)

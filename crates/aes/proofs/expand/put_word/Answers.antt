@@ -10,4 +10,4 @@ use Rattle.aes.proofs.expand.put_word.Goals as goal
 pub returns : goal.returns
 returns c =
     let l : length c.args.w.now ≡ 176 = c.requires.1 in
-    put_four c.args.w.now c.args.t3 c.args.o (omega arith) (search rules)
+    put_four c.args.w.now c.args.t c.args.o (omega arith) (search rules)
