@@ -188,7 +188,7 @@ def convert(path, record, where):
         mine = [u for u in uses if used(u, body)]
         places_used = [f"{goals}.{module}.{{{', '.join(named)}}}"] if named and module == "Goals" else []
         with open(file, "w", encoding="utf-8") as f:
-            f.write("\n".join((head if needs_head else []) + mine + [f"{goals}.{module} as goal", "", body]) + "\n")
+            f.write("\n".join((head if needs_head else []) + mine + [f"{goals}.{module} as goal", *places_used, "", body]) + "\n")
 
     if invariants:
         write("Invariants.antt", "Given", invariants, not answers)

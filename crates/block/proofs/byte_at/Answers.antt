@@ -6,6 +6,7 @@ use lib.ListN.{length, get_or-eq_default}
 use Rattle.block.proofs.Sixteen.{joined_front, joined_behind}
 use borrow.Author.Rules.{rules}
 use Rattle.block.proofs.byte_at.Goals as goal
+use Rattle.block.proofs.byte_at.Goals.{Start}
 
 -- the length of the block
 whole : (c : Start) → length c.args.x ≡ 16

@@ -11,6 +11,7 @@ use Rattle.frame.proofs.Number.{framed}
 use Rattle.frame.proofs.Made.{answer_refused, answer_made}
 use borrow.Author.Rules.{rules}
 use Rattle.frame.proofs.judge.Goals as goal
+use Rattle.frame.proofs.judge.Goals.{Else-number-ne-DONE}
 
 none : (c : Else-number-ne-DONE) → frame_number c.args.keys (length c.args.frame.now) ≡ 0
 none c = sym c.fault-number.ensures ∙ c.if-number-ne-DONE.false

@@ -6,6 +6,7 @@ use Rattle.judge.proofs.Formed.{Mostly, formed_long, formed_short}
 use Rattle.judge.proofs.Formed.{not_size, not_count, not_rest, not_wholes, not_fours}
 use borrow.Author.Rules.{rules}
 use Rattle.judge.proofs.is_formed.Goals as goal
+use Rattle.judge.proofs.is_formed.Goals.{Else-s-fours_for}
 
 -- all but the chain value
 mostly : (c : Else-s-fours_for)

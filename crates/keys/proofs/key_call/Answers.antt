@@ -8,6 +8,7 @@ use Rattle.laws.proofs.UpTo.{Within}
 use Rattle.keys.specs.Answer.{key_number, refused_keys}
 use Rattle.keys.proofs.Number.{number_faultless, answer_refused, answer_done, meant_within}
 use Rattle.keys.proofs.key_call.Goals as goal
+use Rattle.keys.proofs.key_call.Goals.{Else-number-ne-DONE}
 
 -- past the test the number is 0
 no_number : (c : Else-number-ne-DONE)

@@ -8,6 +8,7 @@ use borrow.Author.Tests.{leb-true, not-false}
 use Rattle.lines.proofs.Finding.{Leads, leads_none, leads_past}
 use borrow.Author.Rules.{rules}
 use Rattle.lines.proofs.skip.Goals as goal
+use Rattle.lines.proofs.skip.Goals.{In-loop-at}
 
 pub loop-at-init : goal.loop-at-init
 loop-at-init c = leads_none _ _

@@ -6,6 +6,7 @@ use Rattle.lines.proofs.Telling.{tells_nothing}
 use Rattle.outgoing.proofs.Sent.{fed_within, tells_fed}
 use borrow.Author.Rules.{rules}
 use Rattle.outgoing.proofs.tell.Goals as goal
+use Rattle.outgoing.proofs.tell.Goals.{After-lay-end}
 
 -- there is room for a line feed behind the characters
 within : (c : After-lay-end) → c.lay-end.result < length c.args.space.now

@@ -15,6 +15,7 @@ use Rattle.program.proofs.Answering.{step_some, step_most, step_within, step_len
 use Rattle.program.proofs.Hearing.{unwritten_told}
 use borrow.Author.Rules.{rules}
 use Rattle.program.proofs.answer.Goals as goal
+use Rattle.program.proofs.answer.Goals.{After-step-a}
 
 room : (c : After-step-a)
     → width c.args.s.kind ≤ length c.loop-at.space

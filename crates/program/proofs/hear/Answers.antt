@@ -10,6 +10,7 @@ use Rattle.io.specs.Counts.{clamp_len}
 use Rattle.program.specs.Reason.{negative}
 use Rattle.program.proofs.Hearing.{unread_again, unread_failed, hears_failed, hears_end, hears_part}
 use Rattle.program.proofs.hear.Goals as goal
+use Rattle.program.proofs.hear.Goals.{Start, After-failed, After-count-n}
 
 -- a signed number is handed on by its bits
 bits : (c : Start) → to_z w64 (of_z w64 c.args.got) ≡ c.args.got

@@ -9,6 +9,7 @@ use Rattle.session.proofs.Telling.{width_most}
 use Rattle.program.proofs.Running.{runs_more, runs_stop, runs_none}
 use borrow.Author.Rules.{rules}
 use Rattle.program.proofs.turns.Goals as goal
+use Rattle.program.proofs.turns.Goals.{At-loop-left}
 
 -- the space has room for a last text
 room : (c : At-loop-left) → width c.loop-left.s.kind ≤ length c.loop-left.space

@@ -7,6 +7,7 @@ use Rattle.session.proofs.States.{lacking_within}
 use Rattle.session.proofs.Stepping.{step_lacking}
 use borrow.Author.Rules.{rules}
 use Rattle.session.proofs.finish.Goals as goal
+use Rattle.session.proofs.finish.Goals.{Start}
 
 size : (c : Start) → length c.args.s.line ≡ 511
 size c = search rules

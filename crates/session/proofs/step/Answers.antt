@@ -14,6 +14,7 @@ use Rattle.session.proofs.Stepping.{Stepping, begins_within, stepping_none, pass
 use Rattle.session.proofs.Stepping.{stepping_more, stepping_less, none_left, step_whole, tidied_tidy, tidied_kind, tidied_step}
 use borrow.Author.Rules.{rules}
 use Rattle.session.proofs.step.Goals as goal
+use Rattle.session.proofs.step.Goals.{Start, At-loop-before, In-loop-before}
 
 size : (c : Start) → length c.args.s.line ≡ 511
 size c = search rules

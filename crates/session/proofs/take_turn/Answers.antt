@@ -10,6 +10,7 @@ use Rattle.lines.proofs.Moving.{line_within}
 use Rattle.session.proofs.Turning.{gathered_within, told_within, turned_part, turned_line}
 use borrow.Author.Rules.{rules}
 use Rattle.session.proofs.take_turn.Goals as goal
+use Rattle.session.proofs.take_turn.Goals.{Else-end-part}
 
 stop_fits : (c : Else-end-part) → Fits w64 (c.find-end.result + 1)
 stop_fits c = search rules

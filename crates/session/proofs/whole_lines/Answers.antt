@@ -11,6 +11,7 @@ use Rattle.session.proofs.Telling.{width_some}
 use Rattle.session.proofs.Turning.{goes_told, line_told_within, spans_none, spans_line}
 use borrow.Author.Rules.{rules}
 use Rattle.session.proofs.whole_lines.Goals as goal
+use Rattle.session.proofs.whole_lines.Goals.{In-loop-keys, After-find-stop, Else-stop-part, After-tell-o}
 
 -- there is more to take, and room for another text
 room : (c : In-loop-keys)

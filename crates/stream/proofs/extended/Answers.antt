@@ -7,6 +7,7 @@ use Rattle.judge.proofs.Held.{Fine, formed_holds}
 use Rattle.stream.proofs.Adding.{added_room}
 use borrow.Author.Rules.{rules}
 use Rattle.stream.proofs.extended.Goals as goal
+use Rattle.stream.proofs.extended.Goals.{Start}
 
 fine : (c : Start) → Fine c.args.order c.args.s
 fine c = record { form = c.requires.form; size = search rules }

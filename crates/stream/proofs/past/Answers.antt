@@ -8,6 +8,7 @@ use Rattle.judge.proofs.Held.{Fine, formed_holds}
 use Rattle.stream.proofs.Adding.{added_over, chain_few}
 use borrow.Author.Rules.{rules}
 use Rattle.stream.proofs.past.Goals as goal
+use Rattle.stream.proofs.past.Goals.{Start}
 
 fine : (c : Start) → Fine c.args.order c.args.s
 fine c = record { form = c.requires.extends.form; size = search rules }

@@ -6,6 +6,7 @@ use Rattle.judge.proofs.Held.{Fine}
 use Rattle.stream.proofs.Closing.{closing_sealed}
 use borrow.Author.Rules.{rules}
 use Rattle.stream.proofs.sealed.Goals as goal
+use Rattle.stream.proofs.sealed.Goals.{Start}
 
 -- the stream's arrays have sixteen bytes
 fine : (c : Start) → Fine c.args.keys.order c.args.s

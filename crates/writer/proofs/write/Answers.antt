@@ -10,6 +10,7 @@ use Rattle.writer.proofs.Number.{writes_told}
 use Rattle.writer.proofs.Laid.{write_refused, written_whole}
 use borrow.Author.Rules.{rules}
 use Rattle.writer.proofs.write.Goals as goal
+use Rattle.writer.proofs.write.Goals.{Else-number-ne-DONE}
 
 -- no fault was found
 none : (c : Else-number-ne-DONE)
