@@ -14,18 +14,18 @@ whole c = search rules
 
 pub returns-then-i-n : goal.returns-then-i-n
 returns-then-i-n c =
-    let l = whole c.before in
+    let l = whole (goal.at.returns-then-i-n c).Start in
     sym (joined_front c.args.x _ _ _ c.if-i-n.true (omega arith))
 
 pub returns-then-j-part : goal.returns-then-j-part
 returns-then-j-part c =
     let a = c.args in
-    let l = whole c.before.before.before in
+    let l = whole (goal.at.returns-then-j-part c).Start in
     sym (joined_behind a.x a.part.now a.n a.i (search rules) (omega arith))
 
 pub returns-else-j-part : goal.returns-else-j-part
 returns-else-j-part c =
     let a = c.args in
-    let l = whole c.before.before in
+    let l = whole (goal.at.returns-else-j-part c).Start in
     sym (joined_behind a.x a.part.now a.n a.i (search rules) (omega arith)
     ∙ get_or-eq_default a.part.now 0 (search rules))

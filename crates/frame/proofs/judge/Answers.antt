@@ -20,7 +20,7 @@ pub returns-then-number-ne-DONE : goal.returns-then-number-ne-DONE
 returns-then-number-ne-DONE c = c.refused.ensures ∙ answer_refused _ _ c.fault-number.ensures c.if-number-ne-DONE.true
 
 pub overflow_sub-end : goal.overflow_sub-end
-overflow_sub-end c = omega (arith, c.size.ensures, (framed _ _ (none c.before)).some)
+overflow_sub-end c = omega (arith, c.size.ensures, (framed _ _ (none (goal.at.overflow_sub-end c).Else-number-ne-DONE)).some)
 
 pub slice_bounds-verify-end : goal.slice_bounds-verify-end
 slice_bounds-verify-end c = sym (length-take-le _ _ (search rules))
@@ -29,12 +29,12 @@ pub returns-then-v-eq-DONE : goal.returns-then-v-eq-DONE
 returns-then-v-eq-DONE c =
     let at_size = c.before.before.before.before in
     let a = at_size.args in
-    answer_made a.keys a.frame.now true (none at_size.before) at_size.size.ensures (eq-eqb _ _ c.if-v-eq-DONE.true)
+    answer_made a.keys a.frame.now true (none (goal.at.returns-then-v-eq-DONE c).Else-number-ne-DONE) at_size.size.ensures (eq-eqb _ _ c.if-v-eq-DONE.true)
     c.verify-v.ensures
 
 pub returns-else-v-eq-DONE : goal.returns-else-v-eq-DONE
 returns-else-v-eq-DONE c =
     let at_size = c.before.before.before.before in
     let a = at_size.args in
-    answer_made a.keys a.frame.now false (none at_size.before) at_size.size.ensures (ne_eqb _ _ c.if-v-eq-DONE.false)
+    answer_made a.keys a.frame.now false (none (goal.at.returns-else-v-eq-DONE c).Else-number-ne-DONE) at_size.size.ensures (ne_eqb _ _ c.if-v-eq-DONE.false)
     c.verify-v.ensures

@@ -40,7 +40,7 @@ pub returns-then-s-fours_for : goal.returns-then-s-fours_for
 returns-then-s-fours_for c = not_fours _ _ c.fours_for.ensures c.if-s-fours_for.true
 
 pub returns-then-total-gt16 : goal.returns-then-total-gt16
-returns-then-total-gt16 c = formed_long _ _ (mostly c.before) (search rules)
+returns-then-total-gt16 c = formed_long _ _ (mostly (goal.at.returns-then-total-gt16 c).Else-s-fours_for) (search rules)
 
 pub returns : goal.returns
-returns c = c.zero_from-2.ensures ∙ formed_short _ _ (mostly c.before.before.before) (search rules)
+returns c = c.zero_from-2.ensures ∙ formed_short _ _ (mostly (goal.at.returns c).Else-s-fours_for) (search rules)

@@ -26,15 +26,15 @@ returns-then-number-ne-DONE c =
     c.refused.ensures ∙ ap refused_keys n.ensures ∙ answer_refused a.order a.bits a.k.now a.l.now h
 
 pub overflow_cast-order : goal.overflow_cast-order
-overflow_cast-order c = record { fits = omega (arith, (number_faultless _ _ _ _ (no_number c)).order_fits) }
+overflow_cast-order c = record { fits = omega (arith, (number_faultless _ _ _ _ (no_number (goal.at.overflow_cast-order c).Else-number-ne-DONE)).order_fits) }
 
 pub overflow_cast-bits : goal.overflow_cast-bits
-overflow_cast-bits c = record { fits = omega (arith, (number_faultless _ _ _ _ (no_number c.before)).tag_fits) }
+overflow_cast-bits c = record { fits = omega (arith, (number_faultless _ _ _ _ (no_number (goal.at.overflow_cast-bits c).Else-number-ne-DONE)).tag_fits) }
 
 pub done-requires : goal.done-requires
 done-requires c =
     let a = c.args in
-    let f = number_faultless _ _ _ _ (no_number c.before.before.before.before) in
+    let f = number_faultless _ _ _ _ (no_number (goal.at.done-requires c).Else-number-ne-DONE) in
     let m = c.meant-d.ensures in
     let w : Within 5 c.meant-d.result =
     meant_within m (record { low = omega arith; high = omega arith }) f.order_fits in
@@ -43,7 +43,7 @@ done-requires c =
 pub returns : goal.returns
 returns c =
     let a = c.args in
-    let z = no_number c.before.before.before.before.before in
+    let z = no_number (goal.at.returns c).Else-number-ne-DONE in
     let f = number_faultless _ _ _ _ z in
     c.done.ensures
     ∙ answer_done a.order a.bits a.k.now a.l.now z c.meant-d.ensures

@@ -20,21 +20,21 @@ room c =
     omega (arith, h)
 
 pub clear-requires : goal.clear-requires
-clear-requires c = room c
+clear-requires c = room (goal.at.clear-requires c).In-loop-at
 
 pub returns-then-not-clear : goal.returns-then-not-clear
 returns-then-not-clear c = c.loop-at.invariant.same
 
 pub overflow_add-i : goal.overflow_add-i
-overflow_add-i c = let h = room c.before.before in search rules
+overflow_add-i c = let h = room (goal.at.overflow_add-i c).In-loop-at in search rules
 
 pub loop-at-smaller : goal.loop-at-smaller
-loop-at-smaller c = omega (arith, room c.before.before)
+loop-at-smaller c = omega (arith, room (goal.at.loop-at-smaller c).In-loop-at)
 
 pub loop-at-preserved : goal.loop-at-preserved
 loop-at-preserved c =
     let at-if = c.before.before in
-    leads_past at-if.loop-at.invariant 16 (room at-if) (c.clear.ensures (not-false _ c.if-not-clear.false))
+    leads_past at-if.loop-at.invariant 16 (room (goal.at.loop-at-preserved c).In-loop-at) (c.clear.ensures (not-false _ c.if-not-clear.false))
 
 pub returns : goal.returns
 returns c = c.loop-at.invariant.same

@@ -17,12 +17,12 @@ returns-then-space-lt-MOST_TEXT c = tells_nothing _ _ _ c.if-space-lt-MOST_TEXT.
 
 pub bounds-space-end : goal.bounds-space-end
 bounds-space-end c =
-    let h = within c.before.before in
+    let h = within (goal.at.bounds-space-end c).After-lay-end in
     search rules
 
 pub overflow_add-result : goal.overflow_add-result
 overflow_add-result c =
-    let h = within c.before.before in
+    let h = within (goal.at.overflow_add-result c).After-lay-end in
     search rules
 
 pub returns : goal.returns

@@ -43,29 +43,29 @@ pub loop-at-init : goal.loop-at-init
 loop-at-init c = (search rules, answering_none _ _ (search rules))
 
 pub slice_bounds-space-end : goal.slice_bounds-space-end
-slice_bounds-space-end c = within c.before.before
+slice_bounds-space-end c = within (goal.at.slice_bounds-space-end c).After-step-a
 
 pub slice_bounds-write_all-end : goal.slice_bounds-write_all-end
-slice_bounds-write_all-end c = sym (length-take-le _ _ (within c.before.before.before))
+slice_bounds-write_all-end c = sym (length-take-le _ _ (within (goal.at.slice_bounds-write_all-end c).After-step-a))
 
 pub returns-then-not-write_all : goal.returns-then-not-write_all
 returns-then-not-write_all c = inr (unwritten_told _)
 
 pub overflow_add-at : goal.overflow_add-at
-overflow_add-at c = fits c.before.before.before.before.before.before
+overflow_add-at c = fits (goal.at.overflow_add-at c).After-step-a
 
 pub loop-at-smaller : goal.loop-at-smaller
 loop-at-smaller c =
     let at-step = c.before.before.before.before.before.before in
     let l = at-step.loop-at in
-    omega (arith, step_some l.invariant.1 l.space (room at-step) (more at-step) at-step.step-a.ensures, more at-step)
+    omega (arith, step_some l.invariant.1 l.space (room (goal.at.loop-at-smaller c).After-step-a) (more (goal.at.loop-at-smaller c).After-step-a) at-step.step-a.ensures, more (goal.at.loop-at-smaller c).After-step-a)
 
 pub loop-at-preserved : goal.loop-at-preserved
 loop-at-preserved c =
     let at-step = c.before.before.before.before.before.before in
     let l = at-step.loop-at in (
-      l.invariant.0 ∙ sym (step_length l.invariant.1 l.space (room at-step) (more at-step) at-step.step-a.ensures),
-      answering_more l.invariant.1 l.space (room at-step) (more at-step) at-step.step-a.ensures,
+      l.invariant.0 ∙ sym (step_length l.invariant.1 l.space (room (goal.at.loop-at-preserved c).After-step-a) (more (goal.at.loop-at-preserved c).After-step-a) at-step.step-a.ensures),
+      answering_more l.invariant.1 l.space (room (goal.at.loop-at-preserved c).After-step-a) (more (goal.at.loop-at-preserved c).After-step-a) at-step.step-a.ensures,
     )
 
 pub returns : goal.returns

@@ -28,22 +28,22 @@ count_told c =
     c.count-n.ensures.1 ∙ ap (λ (z : ℤ). clamp_len z (length a.args.input.now)) (bits a)
 
 pub returns-then-interrupted : goal.returns-then-interrupted
-returns-then-interrupted c = hears_failed _ _ _ _ _ (failed_told c.before.before) c.if-failed.true (unread_again _ _ c.if-interrupted.true)
+returns-then-interrupted c = hears_failed _ _ _ _ _ (failed_told (goal.at.returns-then-interrupted c).After-failed) c.if-failed.true (unread_again _ _ c.if-interrupted.true)
 
 pub returns-then-failed : goal.returns-then-failed
-returns-then-failed c = hears_failed _ _ _ _ _ (failed_told c.before.before) c.if-failed.true (unread_failed _ _ c.if-interrupted.false)
+returns-then-failed c = hears_failed _ _ _ _ _ (failed_told (goal.at.returns-then-failed c).After-failed) c.if-failed.true (unread_failed _ _ c.if-interrupted.false)
 
 pub returns-then-n-eq0 : goal.returns-then-n-eq0
 returns-then-n-eq0 c =
     let at-finish = c.before.before in
     let at_count = at-finish.before.before.before in
     let at-failed = at_count.before.before in
-    hears_end _ _ _ _ _ (failed_told at-failed) at_count.if-failed.false (count_told at_count)
+    hears_end _ _ _ _ _ (failed_told (goal.at.returns-then-n-eq0 c).After-failed) at_count.if-failed.false (count_told (goal.at.returns-then-n-eq0 c).After-count-n)
     at-finish.if-n-eq0.true at-finish.finish.ensures
 
 pub returns : goal.returns
 returns c =
     let at_count = c.before.before.before in
     let at-failed = at_count.before.before in
-    hears_part _ _ _ _ _ (failed_told at-failed) at_count.if-failed.false (count_told at_count)
+    hears_part _ _ _ _ _ (failed_told (goal.at.returns c).After-failed) at_count.if-failed.false (count_told (goal.at.returns c).After-count-n)
     c.if-n-eq0.false c.answer.ensures

@@ -27,7 +27,7 @@ returns-then-reason-ne-GOES_ON c =
     let some : 0 < l.left = omega (arith, at_test.loop-left-test.true) in (
       at-begin.begin-s.result,
       at-begin.begin-s.ensures,
-      l.invariant.2 _ (runs_stop _ _ _ _ _ (room at_test.before) at-hear.hear-h.ensures l.left some c.if-reason-ne-GOES_ON.true),
+      l.invariant.2 _ (runs_stop _ _ _ _ _ (room (goal.at.returns-then-reason-ne-GOES_ON c).At-loop-left) at-hear.hear-h.ensures l.left some c.if-reason-ne-GOES_ON.true),
     )
 
 pub loop-left-preserved : goal.loop-left-preserved
@@ -38,7 +38,7 @@ loop-left-preserved c =
     let some : 0 < l.left = omega (arith, at_test.loop-left-test.true) in (
       search rules,
       search rules,
-      λ r q. l.invariant.2 r (runs_more _ _ _ _ _ (room at_test.before) at-hear.hear-h.ensures l.left r some c.if-reason-ne-GOES_ON.false q),
+      λ r q. l.invariant.2 r (runs_more _ _ _ _ _ (room (goal.at.loop-left-preserved c).At-loop-left) at-hear.hear-h.ensures l.left r some c.if-reason-ne-GOES_ON.false q),
     )
 
 pub returns : goal.returns

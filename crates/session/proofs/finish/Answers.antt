@@ -22,4 +22,4 @@ pub returns : goal.returns
 returns c =
     let at-lacking = c.before.before.before.before.before in
     let a = at-lacking.before.before in
-    step_lacking a.args.s a.args.space.now (size a) at-lacking.lacking-end.ensures c.step.ensures
+    step_lacking a.args.s a.args.space.now (size (goal.at.returns c).Start) at-lacking.lacking-end.ensures c.step.ensures

@@ -41,7 +41,7 @@ ready c = stepping_ready c.loop-before.invariant (wide c.before.before) c.goes.e
 pub pass_whole-t-requires : goal.pass_whole-t-requires
 pass_whole-t-requires c =
     let a = c.before.before.before.before.before in
-    (tidied_tidy a.args.s (size a) c.tidied.ensures, begins_within _ _)
+    (tidied_tidy a.args.s (size (goal.at.pass_whole-t-requires c).Start) c.tidied.ensures, begins_within _ _)
 
 pub loop-before-init : goal.loop-before-init
 loop-before-init c =
@@ -49,10 +49,10 @@ loop-before-init c =
     stepping_none _ _ _ p.tidy (passes_within _ p.moves)
 
 pub goes-requires : goal.goes-requires
-goes-requires c = omega (arith, wide c, width_some c.pass_whole-t.result.state.kind)
+goes-requires c = omega (arith, wide (goal.at.goes-requires c).At-loop-before, width_some c.pass_whole-t.result.state.kind)
 
 pub take_turn-gathered-requires : goal.take_turn-gathered-requires
-take_turn-gathered-requires c = ready c.before.before
+take_turn-gathered-requires c = ready (goal.at.take_turn-gathered-requires c).In-loop-before
 
 pub pass_whole-next-requires : goal.pass_whole-next-requires
 pass_whole-next-requires c =
@@ -64,7 +64,7 @@ loop-before-smaller c =
     let at-pass = c.before.before in
     let at_turn = at-pass.before.before.before.before in
     let at-if = at_turn.before.before.before in
-    stepping_less at-if.loop-before.invariant at_turn.take_turn-gathered.ensures at-pass.pass_whole-next.ensures (ready at-if).more
+    stepping_less at-if.loop-before.invariant at_turn.take_turn-gathered.ensures at-pass.pass_whole-next.ensures (ready (goal.at.loop-before-smaller c).In-loop-before).more
 
 pub loop-before-preserved : goal.loop-before-preserved
 loop-before-preserved c =
@@ -86,6 +86,6 @@ returns c =
     let at-tidied = at-pass.before.before in
     let a = at-tidied.before.before.before.before in
     let v = at_goes.loop-before.invariant in
-    tidied_step a.args.s (size a) at-tidied.tidied.ensures a.args.part.now a.args.space.now
+    tidied_step a.args.s (size (goal.at.returns c).Start) at-tidied.tidied.ensures a.args.part.now a.args.space.now
     (step_whole at-pass.pass_whole-t.ensures v
-    (none_left v (wide at_goes.before) at_goes.goes.ensures c.loop-before-test.false))
+    (none_left v (wide (goal.at.returns c).At-loop-before) at_goes.goes.ensures c.loop-before-test.false))

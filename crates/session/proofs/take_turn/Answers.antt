@@ -44,7 +44,7 @@ pub line_told-t-requires : goal.line_told-t-requires
 line_told-t-requires c = c.requires.room
 
 pub overflow_add-result : goal.overflow_add-result
-overflow_add-result c = stop_fits c.before.before.before.before.before.before
+overflow_add-result c = stop_fits (goal.at.overflow_add-result c).Else-end-part
 
 pub overflow_add-result-2 : goal.overflow_add-result-2
 overflow_add-result-2 c = out_fits c.before.before.before.before

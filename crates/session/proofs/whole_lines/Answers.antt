@@ -58,31 +58,31 @@ pub returns-then-stop-part : goal.returns-then-stop-part
 returns-then-stop-part c = c.loop-keys.invariant
 
 pub slice_bounds-tell-start : goal.slice_bounds-tell-start
-slice_bounds-tell-start c = (within c.before).0
+slice_bounds-tell-start c = (within (goal.at.slice_bounds-tell-start c).After-find-stop).0
 
 pub slice_bounds-tell-end : goal.slice_bounds-tell-end
-slice_bounds-tell-end c = (within c.before).1
+slice_bounds-tell-end c = (within (goal.at.slice_bounds-tell-end c).After-find-stop).1
 
 pub tell-o-requires : goal.tell-o-requires
-tell-o-requires c = (room c.before.before.before.before).1
+tell-o-requires c = (room (goal.at.tell-o-requires c).In-loop-keys).1
 
 pub overflow_add-o : goal.overflow_add-o
-overflow_add-o c = out_fits c.before.before
+overflow_add-o c = out_fits (goal.at.overflow_add-o c).After-tell-o
 
 pub overflow_add-i : goal.overflow_add-i
-overflow_add-i c = stop_fits c.before.before.before.before.before
+overflow_add-i c = stop_fits (goal.at.overflow_add-i c).Else-stop-part
 
 pub loop-keys-smaller : goal.loop-keys-smaller
 loop-keys-smaller c =
     let at-find = c.before.before.before.before.before.before in
-    omega (arith, (within at-find).0, (room at-find.before).0)
+    omega (arith, (within (goal.at.loop-keys-smaller c).After-find-stop).0, (room (goal.at.loop-keys-smaller c).In-loop-keys).0)
 
 pub loop-keys-preserved : goal.loop-keys-preserved
 loop-keys-preserved c =
     let at-tell = c.before.before in
     let at-if = at-tell.before.before.before in
     let at-find = at-if.before in
-    spans_line _ _ _ at-find.loop-keys.invariant (room at-find.before).1 at-find.find-stop.ensures at-if.if-stop-part.false
+    spans_line _ _ _ at-find.loop-keys.invariant (room (goal.at.loop-keys-preserved c).In-loop-keys).1 at-find.find-stop.ensures at-if.if-stop-part.false
     at-tell.tell-o.ensures
 
 pub shape_of-space : goal.shape_of-space

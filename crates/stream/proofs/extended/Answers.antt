@@ -33,5 +33,5 @@ returns c =
     let holds = formed_holds _ _ at-start.requires.form in
     let fits : at-start.args.s.count + length at-start.args.part.now ≤ 16 =
     omega (arith, holds.most, c.if-part-n.false) in
-    added_room _ _ at-start.args.s at-start.args.part.now (fine at-start) _ fits
+    added_room _ _ at-start.args.s at-start.args.part.now (fine (goal.at.returns c).Start) _ fits
     c.join-first.ensures

@@ -21,10 +21,10 @@ pub overflow_sub-room : goal.overflow_sub-room
 overflow_sub-room c = omega (arith, (formed_holds _ _ c.requires.extends.form).most)
 
 pub overflow_sub-end : goal.overflow_sub-end
-overflow_sub-end c = omega (arith, full c.before)
+overflow_sub-end c = omega (arith, full (goal.at.overflow_sub-end c).Start)
 
 pub overflow_sub-end-2 : goal.overflow_sub-end-2
-overflow_sub-end-2 c = omega (arith, full c.before)
+overflow_sub-end-2 c = omega (arith, full (goal.at.overflow_sub-end-2 c).Start)
 
 pub overflow_sub-done : goal.overflow_sub-done
 overflow_sub-done c = omega (arith, (formed_holds _ _ c.requires.extends.form).sum)
@@ -42,7 +42,7 @@ returns c =
     let s = at-start.args.s in
     let p = at-start.args.part.now in
     let holds = formed_holds _ _ at-start.requires.extends.form in
-    let more = full at-start in
-    added_over _ _ s p (fine at-start) (16 - s.count) ((length p - (16 - s.count) - 1) / 16)
+    let more = full (goal.at.returns c).Start in
+    added_over _ _ s p (fine (goal.at.returns c).Start) (16 - s.count) ((length p - (16 - s.count) - 1) / 16)
     ((s.total - s.count) / 16) (omega (arith, holds.most)) (omega arith) (omega arith) (omega (arith, holds.sum))
     at-start.requires.filled refl c.read.ensures at-taken.taken-c.ensures at-chain.chain_of.ensures

@@ -18,5 +18,5 @@ value_size c = search rules
 pub returns : goal.returns
 returns c =
     let at-start = c.before.before.before.before.before.before.before in
-    closing_sealed at-start.args.keys at-start.args.s c.chain_of.ensures c.seal.ensures (fine at-start)
-    (value_size at-start) at-start.requires.some
+    closing_sealed at-start.args.keys at-start.args.s c.chain_of.ensures c.seal.ensures (fine (goal.at.returns c).Start)
+    (value_size (goal.at.returns c).Start) at-start.requires.some
