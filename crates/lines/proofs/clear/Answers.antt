@@ -1,12 +1,12 @@
 -- `lines::clear` meets its contract. After i turns nothing was gathered only where none of the first i characters is a line feed.
 -- Assumes nothing.
 use mathlib.Core.Path.{◌≡◌, sym}
-use Prim.Native.Nat.{◌-◌, ◌<◌, ◌≤◌}
+use Prim.Native.Nat.{◌<◌}
 use native.Mathlib.Omega.{arith}
 use lib.ListN.{length, drop, length-drop}
 use lib.Seq.{get_or-drop}
 use borrow.Author.Tests.{eqb-true}
-use Rattle.lines.proofs.Finding.{Clear, clear_none, clear_more}
+use Rattle.lines.proofs.Finding.{clear_none, clear_more}
 use borrow.Author.Rules.{rules}
 use Rattle.lines.proofs.clear.Goals as goal
 

@@ -1,7 +1,6 @@
-use mathlib.Core.Path.{◌≡◌, sym}
-use Prim.Native.Nat.{◌-◌, ◌<◌, ◌≤◌}
-use lib.ListN.{length, drop, length-drop}
-use Rattle.lines.proofs.Finding.{Clear, clear_none, clear_more}
+use Prim.Native.Nat.{◌-◌, ◌≤◌}
+use lib.ListN.{drop}
+use Rattle.lines.proofs.Finding.{Clear}
 use Rattle.lines.proofs.clear.Given as goal
 
 abbrev pub invariant-loop-i : goal.invariant-loop-i

@@ -1,7 +1,6 @@
 -- `lines::find` meets its contract. The line ends where it does from each place that was come to without a line feed.
 -- Assumes nothing.
-use Prim.Native.Nat.{◌-◌}
-use Rattle.lines.proofs.Finding.{Leads, leads_end, leads_feed, leads_more}
+use Rattle.lines.proofs.Finding.{leads_end, leads_feed, leads_more}
 use borrow.Author.Rules.{rules}
 use Rattle.lines.proofs.find.Goals as goal
 

@@ -1,6 +1,6 @@
 use Prim.Native.Nat.{◌-◌}
 use lib.ListN.{length}
-use Rattle.lines.proofs.Finding.{Leads, leads_end, leads_feed, leads_more}
+use Rattle.lines.proofs.Finding.{Leads}
 use Rattle.lines.proofs.find.Given as goal
 
 abbrev pub invariant-loop-i : goal.invariant-loop-i

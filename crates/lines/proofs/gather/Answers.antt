@@ -1,8 +1,7 @@
 -- `lines::gather` meets its contract. At each turn the characters so far stand behind the line, and as many turns are left as
 -- characters are.
 -- Assumes nothing.
-use Prim.Native.Nat.{◌-◌}
-use Rattle.lines.proofs.Gathering.{Gathering, begun, gathering_none, gathering_more, gathering_end, gathering_full}
+use Rattle.lines.proofs.Gathering.{begun, gathering_none, gathering_more, gathering_end, gathering_full}
 use borrow.Author.Rules.{rules}
 use Rattle.lines.proofs.gather.Goals as goal
 

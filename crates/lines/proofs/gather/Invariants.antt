@@ -1,6 +1,6 @@
 use Prim.Native.Nat.{◌-◌}
 use lib.ListN.{length, take}
-use Rattle.lines.proofs.Gathering.{Gathering, begun, gathering_none, gathering_more, gathering_end, gathering_full}
+use Rattle.lines.proofs.Gathering.{Gathering}
 use Rattle.lines.proofs.gather.Given as goal
 
 abbrev pub invariant-loop-i : goal.invariant-loop-i

@@ -4,8 +4,8 @@ use mathlib.Core.Path.{sym, ◌∙◌}
 use Prim.Native.Nat.{◌+◌, ◌-◌, ◌≤◌}
 use native.Mathlib.Omega.{arith}
 use lib.ListN.{length}
-use borrow.Author.Tests.{leb-true, not-false}
-use Rattle.lines.proofs.Finding.{Leads, leads_none, leads_past}
+use borrow.Author.Tests.{leb-true}
+use Rattle.lines.proofs.Finding.{leads_none, leads_past}
 use borrow.Author.Rules.{rules}
 use Rattle.lines.proofs.skip.Goals as goal
 use Rattle.lines.proofs.skip.Goals.{In-loop-at}
@@ -33,8 +33,7 @@ loop-at-smaller c = omega (arith, room (goal.at.loop-at-smaller c).In-loop-at)
 
 pub loop-at-preserved : goal.loop-at-preserved
 loop-at-preserved c =
-    let at-if = c.before.before in
-    leads_past at-if.loop-at.invariant 16 (room (goal.at.loop-at-preserved c).In-loop-at) (c.clear.ensures (not-false _ c.if-not-clear.false))
+    leads_past c.loop-at.invariant 16 (room (goal.at.loop-at-preserved c).In-loop-at) (c.clear.ensures c.if-not-clear.false)
 
 pub returns : goal.returns
 returns c = c.loop-at.invariant.same

@@ -1,7 +1,6 @@
-use mathlib.Core.Path.{sym, ◌∙◌}
-use Prim.Native.Nat.{◌+◌, ◌-◌, ◌≤◌}
+use Prim.Native.Nat.{◌-◌}
 use lib.ListN.{length}
-use Rattle.lines.proofs.Finding.{Leads, leads_none, leads_past}
+use Rattle.lines.proofs.Finding.{Leads}
 use Rattle.lines.proofs.skip.Given as goal
 
 abbrev pub invariant-loop-at : goal.invariant-loop-at

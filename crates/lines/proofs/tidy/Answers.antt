@@ -1,7 +1,6 @@
 -- `lines::tidy` meets its contract. After i turns the first i characters stand in the array, and 511 - i turns are left.
 -- Assumes nothing.
-use Prim.Native.Nat.{◌-◌}
-use Rattle.lines.proofs.Tidied.{Tidied, tidied_none, tidied_more, tidied_all, tidied_whole}
+use Rattle.lines.proofs.Tidied.{tidied_none, tidied_more, tidied_all, tidied_whole}
 use borrow.Author.Rules.{rules}
 use Rattle.lines.proofs.tidy.Goals as goal
 

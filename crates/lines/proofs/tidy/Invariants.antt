@@ -1,5 +1,5 @@
 use Prim.Native.Nat.{◌-◌}
-use Rattle.lines.proofs.Tidied.{Tidied, tidied_none, tidied_more, tidied_all, tidied_whole}
+use Rattle.lines.proofs.Tidied.{Tidied}
 use Rattle.lines.proofs.tidy.Given as goal
 
 abbrev pub invariant-loop-i : goal.invariant-loop-i
