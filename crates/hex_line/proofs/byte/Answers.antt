@@ -1,4 +1,4 @@
--- `hex::byte` meets its contract. By the values of its two halves.
+-- `hex_line::byte` meets its contract. By the values of its two halves.
 -- Assumes nothing.
 use mathlib.Core.Path.{ap₂}
 use Prim.Native.Nat.{ℕ, ◌+◌, ◌*◌}

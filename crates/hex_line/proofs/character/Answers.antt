@@ -1,4 +1,4 @@
--- `hex::character` meets its contract. By one test over all 16 values.
+-- `hex_line::character` meets its contract. By one test over all 16 values.
 -- Assumes nothing.
 use Rattle.hex_line.proofs.Digits.{character_reckoned}
 use Rattle.hex_line.proofs.character.Goals as goal

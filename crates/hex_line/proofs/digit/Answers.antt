@@ -1,4 +1,4 @@
--- `hex::digit` meets its contract. By whether the character is a digit.
+-- `hex_line::digit` meets its contract. By whether the character is a digit.
 -- Assumes nothing.
 use Rattle.hex_line.proofs.Digits.{digit_value, digit_bad}
 use Rattle.hex_line.proofs.digit.Goals as goal

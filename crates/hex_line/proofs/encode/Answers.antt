@@ -1,4 +1,4 @@
--- `hex::encode` meets its contract. By whether the space has room.
+-- `hex_line::encode` meets its contract. By whether the space has room.
 -- Assumes nothing.
 use mathlib.Core.Path.{sym}
 use native.Mathlib.Omega.{arith}

@@ -1,4 +1,4 @@
--- `hex::fault` meets its contract. By one test over all 256 characters.
+-- `hex_line::fault` meets its contract. By one test over all 256 characters.
 -- Assumes nothing.
 use mir.Syntax.{w8}
 use mir.Val.{Fits}

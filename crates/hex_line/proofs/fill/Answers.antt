@@ -1,7 +1,6 @@
--- `hex::fill` meets its contract. After i turns the first i bytes stand at the front of the space, and n - i turns are left.
+-- `hex_line::fill` meets its contract. After i turns the first i bytes stand at the front of the space, and n - i turns are left.
 -- Assumes nothing.
-use Prim.Native.Nat.{◌-◌}
-use Rattle.laws.proofs.Laid.{Laid, laid_length, front_within, front_put}
+use Rattle.laws.proofs.Laid.{laid_length, front_within, front_put}
 use Rattle.hex_line.proofs.BothWays.{decoded_pair}
 use Rattle.hex_line.proofs.Writing.{bytes_none, bytes_all}
 use borrow.Author.Rules.{rules}
@@ -15,9 +14,8 @@ bounds-space-i c = front_within c.loop-i.invariant (search rules)
 
 pub loop-i-preserved : goal.loop-i-preserved
 loop-i-preserved c =
-    let at-loop = c.before.before.before.before in
-    front_put at-loop.loop-i.invariant (search rules)
-    (decoded_pair _ at-loop.requires.0 at-loop.loop-i.i (search rules) c.byte.ensures)
+    front_put c.loop-i.invariant (search rules)
+    (decoded_pair _ c.requires.0 c.loop-i.i (search rules) c.byte.ensures)
 
 pub shape_of-space : goal.shape_of-space
 shape_of-space c = laid_length c.loop-i.invariant

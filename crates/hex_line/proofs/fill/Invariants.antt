@@ -1,5 +1,5 @@
 use Prim.Native.Nat.{◌-◌}
-use Rattle.laws.proofs.Laid.{Laid, laid_length, front_within, front_put}
+use Rattle.laws.proofs.Laid.{Laid}
 use Rattle.hex_line.specs.Line.{decoded}
 use Rattle.hex_line.proofs.fill.Given as goal
 

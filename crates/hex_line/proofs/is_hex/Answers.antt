@@ -1,7 +1,6 @@
--- `hex::is_hex` meets its contract. After i turns the faults of the first i characters are gathered, and the others are left.
+-- `hex_line::is_hex` meets its contract. After i turns the faults of the first i characters are gathered, and the others are left.
 -- Assumes nothing.
-use Prim.Native.Nat.{◌-◌}
-use Rattle.hex_line.proofs.Judging.{Gathered, gathered_none, gathered_more, gathered_all}
+use Rattle.hex_line.proofs.Judging.{gathered_none, gathered_more, gathered_all}
 use borrow.Author.Rules.{rules}
 use Rattle.hex_line.proofs.is_hex.Goals as goal
 

@@ -1,6 +1,6 @@
 use Prim.Native.Nat.{◌-◌}
 use lib.ListN.{length}
-use Rattle.hex_line.proofs.Judging.{Gathered, gathered_none, gathered_more, gathered_all}
+use Rattle.hex_line.proofs.Judging.{Gathered}
 use Rattle.hex_line.proofs.is_hex.Given as goal
 
 abbrev pub invariant-loop-i : goal.invariant-loop-i

@@ -1,4 +1,4 @@
--- `hex::refused` meets its contract.
+-- `hex_line::refused` meets its contract.
 -- Assumes nothing.
 use mathlib.Core.Path.{refl}
 use Rattle.hex_line.specs.Answer.{refused_line}

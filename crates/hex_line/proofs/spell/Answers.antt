@@ -1,10 +1,9 @@
--- `hex::spell` meets its contract. After i turns the characters of the first i bytes stand at the front of the space, and the other bytes
+-- `hex_line::spell` meets its contract. After i turns the characters of the first i bytes stand at the front of the space, and the other bytes
 -- are left.
 -- Assumes nothing.
-use Prim.Native.Nat.{◌-◌, ◌*◌}
-use lib.ListN.{length, length-set}
+use lib.ListN.{length-set}
 use native.Mathlib.Omega.{arith}
-use Rattle.laws.proofs.Laid.{Laid, laid_length}
+use Rattle.laws.proofs.Laid.{laid_length}
 use Rattle.hex_line.proofs.Writing.{spelt_none, spelt_more, spelt_all}
 use borrow.Author.Rules.{rules}
 use Rattle.hex_line.proofs.spell.Goals as goal

@@ -1,6 +1,6 @@
 use Prim.Native.Nat.{◌-◌, ◌*◌}
-use lib.ListN.{length, length-set}
-use Rattle.laws.proofs.Laid.{Laid, laid_length}
+use lib.ListN.{length}
+use Rattle.laws.proofs.Laid.{Laid}
 use Rattle.hex_line.specs.Line.{encoded}
 use Rattle.hex_line.proofs.spell.Given as goal
 

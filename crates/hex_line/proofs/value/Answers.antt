@@ -1,4 +1,4 @@
--- `hex::value` meets its contract. By one test over all 256 characters.
+-- `hex_line::value` meets its contract. By one test over all 256 characters.
 -- Assumes nothing.
 use Rattle.hex_line.specs.Digit.{digit_of, read_number, read_value}
 use Rattle.hex_line.proofs.Digits.{value_reckoned}

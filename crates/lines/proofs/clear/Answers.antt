@@ -16,10 +16,9 @@ loop-i-init c = (search rules, clear_none _)
 pub loop-i-preserved : goal.loop-i-preserved
 loop-i-preserved c =
     let l = c.loop-i in
-    let a = c.before.before.before in
-    let at = a.args.at in
-    let part = a.args.part.now in
-    let inside : l.i < length (drop at part) = omega (arith, length-drop at part, c.loop-i-test.true, a.requires) in
+    let at = c.args.at in
+    let part = c.args.part.now in
+    let inside : l.i < length (drop at part) = omega (arith, length-drop at part, c.loop-i-test.true, c.requires) in
     (search rules, clear_more l.invariant.1 inside (sym (get_or-drop at part l.i 0)))
 
 pub returns : goal.returns

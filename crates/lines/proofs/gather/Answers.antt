@@ -12,19 +12,15 @@ loop-i-init c =
 
 pub returns-then-n-ge-KEPT : goal.returns-then-n-ge-KEPT
 returns-then-n-ge-KEPT c =
-    let at-loop = c.before.before in
-    let at_held = at-loop.before in
-    let a = at_held.args in
-    gathering_full at-loop.loop-i.invariant a.line a.count
-    (begun a.line a.count (search rules) at_held.tidy-r.ensures at_held.held-n.ensures) c.if-n-ge-KEPT.true
+    let a = c.args in
+    gathering_full c.loop-i.invariant a.line a.count
+    (begun a.line a.count (search rules) c.tidy-r.ensures c.held-n.ensures) c.if-n-ge-KEPT.true
 
 pub loop-i-preserved : goal.loop-i-preserved
 loop-i-preserved c = gathering_more c.loop-i.invariant (search rules) (search rules)
 
 pub returns : goal.returns
 returns c =
-    let at-loop = c.before in
-    let at_held = at-loop.before in
-    let a = at_held.args in
-    gathering_end at-loop.loop-i.invariant a.line a.count
-    (begun a.line a.count (search rules) at_held.tidy-r.ensures at_held.held-n.ensures) c.loop-i-test.false
+    let a = c.args in
+    gathering_end c.loop-i.invariant a.line a.count
+    (begun a.line a.count (search rules) c.tidy-r.ensures c.held-n.ensures) c.loop-i-test.false
