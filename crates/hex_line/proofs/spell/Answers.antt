@@ -1,5 +1,5 @@
--- `hex_line::spell` meets its contract. After i turns the characters of the first i bytes stand at the front of the space, and the other bytes
--- are left.
+-- `hex_line::spell` meets its contract. After i turns the characters of the first i bytes stand at the front of the space, and the other
+-- bytes are left.
 -- Assumes nothing.
 use lib.ListN.{length-set}
 use native.Mathlib.Omega.{arith}
