@@ -82,7 +82,9 @@ module _ (v : ℕ) (h : v < 16) where
   -- which is a digit
   pub character_digit : is_digit (character_of v) ≡ true
   unfolding digit_of read_number
-  character_digit = eq-eqb (read_number (digit_of (character_of v))) 0 (agreed (λ x. read_number (digit_of (character_of x))) (λ x. 0) 16 tt v h)
+  character_digit =
+      eq-eqb (read_number (digit_of (character_of v))) 0
+      (agreed (λ x. read_number (digit_of (character_of x))) (λ x. 0) 16 tt v h)
 
 -- the character of a value, as the code reckons it from three numbers that pass the test
 pub character_reckoned : (first ten gap : ℕ) → T (agree (λ x. first + x + x / ten * gap) character_of 16) → (v : ℕ) → v < 16

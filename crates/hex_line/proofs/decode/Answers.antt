@@ -1,7 +1,8 @@
 -- `hex_line::decode` meets its contract. By the first fault of the space and the line.
 -- Assumes nothing.
-use mathlib.Core.Path.{sym, ◌∙◌}
+use mathlib.Core.Path.{sym}
 use native.Mathlib.Omega.{arith}
+use Rattle.laws.proofs.Cases.{test_fails, test_holds}
 use Rattle.laws.proofs.Fault.{unless_fails, unless_holds}
 use Rattle.hex_line.proofs.BothWays.{decoded_length}
 use Rattle.hex_line.proofs.Outcome.{number_size, number_length, number_rest, writes_refused, writes_done}
@@ -17,15 +18,15 @@ returns-then-line-gt-LONGEST c =
 
 pub returns-then-not-is_hex : goal.returns-then-not-is_hex
 returns-then-not-is_hex c =
-    let fails = sym c.is_hex.ensures ∙ c.if-not-is_hex.true in
+    let fails = test_fails c.is_hex.ensures c.if-not-is_hex.true in
     writes_refused _ _ _ (number_rest _ _ (search rules) (search rules) (unless_fails 9 fails)) (λ z. omega arith)
     c.refused-then-not-is_hex.ensures
 
 pub fill-requires : goal.fill-requires
-fill-requires c = (sym c.is_hex.ensures ∙ c.if-not-is_hex.false, search rules)
+fill-requires c = (test_holds c.is_hex.ensures c.if-not-is_hex.false, search rules)
 
 pub returns : goal.returns
 returns c =
-    let holds = sym c.is_hex.ensures ∙ c.if-not-is_hex.false in
+    let holds = test_holds c.is_hex.ensures c.if-not-is_hex.false in
     writes_done _ _ _ (number_rest _ _ (search rules) (search rules) (unless_holds 9 holds)) (sym (decoded_length _))
     c.fill.ensures
