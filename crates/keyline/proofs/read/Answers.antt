@@ -12,13 +12,11 @@ returns-then-line-ne-LENGTH c =
 
 pub returns-then-d-ne-DONE : goal.returns-then-d-ne-DONE
 returns-then-d-ne-DONE c =
-    let at-decode = c.before.before.before.before in
-    let line = at-decode.args.line.now in
-    read_refused line (number_read line _ (search rules) (search rules) at-decode.decode-d.ensures) c.if-d-ne-DONE.true
+    let line = c.args.line.now in
+    read_refused line (number_read line _ (search rules) (search rules) c.decode-d.ensures) c.if-d-ne-DONE.true
     c.refused-then-d-ne-DONE.ensures
 
 pub returns : goal.returns
 returns c =
-    let at-decode = c.before.before.before.before in
-    let line = at-decode.args.line.now in
-    read_said line _ (search rules) (search rules) at-decode.decode-d.ensures c.if-d-ne-DONE.false c.said.ensures
+    let line = c.args.line.now in
+    read_said line _ (search rules) (search rules) c.decode-d.ensures c.if-d-ne-DONE.false c.said.ensures

@@ -6,6 +6,4 @@ use Rattle.keyline.proofs.said.Goals as goal
 
 pub returns : goal.returns
 returns c =
-    let at-read2 = c.before.before.before in
-    let at_read = at-read2.before.before in
-    said_by _ (search rules) at_read.read-k.ensures at-read2.read-l.ensures c.key_call.ensures
+    said_by _ (search rules) c.read-k.ensures c.read-l.ensures c.key_call.ensures
