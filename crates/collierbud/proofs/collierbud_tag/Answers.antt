@@ -5,7 +5,5 @@ use Rattle.collierbud.proofs.collierbud_tag.Goals as goal
 
 pub returns : goal.returns
 returns c =
-    let at-put = c.before.before in
-    let at-tagged = at-put.before.before.before.before in
-    let at_call = at-tagged.before.before in
-    tag_together _ _ _ _ at_call.key_call-made.ensures _ _ _ at-tagged.tagged-a.ensures at-put.put_two.ensures
+    let tagged = c.tagged-a.ensures in
+    tag_together _ _ _ _ c.key_call-made.ensures _ _ _ (tagged.value, tagged.space_after) c.put_two.ensures

@@ -10,13 +10,12 @@ unfolding tagging tagged_space
 returns-then-fault-ne-DONE c =
     let e = c.start_fault-fault.ensures in
     let h = c.if-fault-ne-DONE.true in
-    (c.refused.ensures ∙ is_refused _ _ e h, is_refused _ _ e h)
+    record { value = c.refused.ensures ∙ is_refused _ _ e h; space_after = is_refused _ _ e h }
 
 pub returns : goal.returns
 unfolding tagging tagged_space
 returns c =
     let made = c.tag.ensures in
-    let at-if1 = c.before.before.before.before.before in
-    let e = at-if1.start_fault-fault.ensures in
-    let z = at-if1.if-fault-ne-DONE.false in
-    (made.0 ∙ is_answered _ _ e z, made.1 ∙ is_answered _ _ e z)
+    let e = c.start_fault-fault.ensures in
+    let z = c.if-fault-ne-DONE.false in
+    record { value = made.0 ∙ is_answered _ _ e z; space_after = made.1 ∙ is_answered _ _ e z }
