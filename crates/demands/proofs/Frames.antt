@@ -8,7 +8,7 @@ use native.Mathlib.Omega.{arith}
 use lib.ListN.{length, take, drop, length-append}
 use lib.Seq.{take_at, drop_at}
 use borrow.Author.Tests.{ne_eqb}
-use denote.Ref.{Bor, MutBor}
+use denote.Ref.{Bor}
 use Rattle.laws.specs.Pick.{pick}
 use Rattle.laws.proofs.Fault.{fault_found}
 use Rattle.block.specs.Bits.{bytes}
@@ -46,14 +46,13 @@ use Rattle.laws.proofs.Cases.{none_or_some}
 -- opening has an answer
 pub opens : (k : KeySet) (frame : Bor (List ℕ)) → (o : Bor (List ℕ)) × OpenPromise k frame o
 opens k frame =
-    let o : Bor (List ℕ) = record { ref_ptr = frame.ref_ptr; ghost_name = frame.ghost_name; now = opened k frame.now } in
+    let o : Bor (List ℕ) = record { ref_ptr = frame.ref_ptr; now = opened k frame.now } in
     (o, (refl, refl))
 
-pub opens_or : (k : KeySet) (frame table : MutBor (List ℕ)) → (o : MutBor (List ℕ)) × OpenOrPromise k frame table o
+pub opens_or : (k : KeySet) (frame table : Bor (List ℕ)) → (o : Bor (List ℕ)) × OpenOrPromise k frame table o
 opens_or k frame table =
-    let o : MutBor (List ℕ) = record {
+    let o : Bor (List ℕ) = record {
       ref_ptr = opened_at k frame.now frame.ref_ptr table.ref_ptr;
-      ghost_name = frame.ghost_name;
       now = opened_or k frame.now table.now;
     } in
     (o, (refl, refl))
