@@ -3,6 +3,14 @@
 // and written is tested.
 #![tactic(auto)]
 
-fn main() {
-    program::run(session::CHECK, b"check", u64::MAX);
+use program::Streams;
+
+fn main(rt: HostRuntime) {
+    let streams = Streams {
+        input: rt.stdin(),
+        output: rt.stdout(),
+        errors: rt.stderr(),
+        name: b"check",
+    };
+    program::run(streams, session::CHECK, u64::MAX);
 }

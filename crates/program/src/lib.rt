@@ -4,8 +4,14 @@
 // `hear`, whether a write failed is told by the reason that is handed back, and of `run` it is promised
 // that there are turns, each of them one that `hear` permits, by which it ends as it does.
 //
-//     fn main() {
-//         program::run(session::CHECK, b"check", u64::MAX);
+//     fn main(rt: HostRuntime) {
+//         let streams = program::Streams {
+//             input: rt.stdin(),
+//             output: rt.stdout(),
+//             errors: rt.stderr(),
+//             name: b"check",
+//         };
+//         program::run(streams, session::CHECK, u64::MAX);
 //     }
 #![tactic(auto)]
 
@@ -15,8 +21,10 @@ ghost use Rattle.program.specs.Inner.{Answers, Finishes};
 ghost use Rattle.program.specs.Hear.{HearPromise};
 ghost use Rattle.program.specs.Promise.{RunPromise};
 
-use libc::{EINTR, STDERR_FILENO, STDIN_FILENO, STDOUT_FILENO};
+mod streams;
+
 use session::State;
+pub use streams::Streams;
 
 // Why a turn ended, or the loop: more may be read; nothing more is answered; the input has ended; a read
 // failed; a write did; or the input has ended, and the space has no room for a last text.
@@ -78,7 +86,7 @@ fn told(state: State) -> Heard
 
 // Answers a part of the input: as much of it as a space has room for the texts at, again and again,
 // and what was written goes out each time. A write that was interrupted counts as one that failed.
-fn answer(s: State, part: &[u8]) -> Heard
+fn answer(streams: Streams<'_>, s: State, part: &[u8]) -> Heard
     requires { 1 ≤ length part.now }
     ensures { Answers s part.now result }
 {
@@ -90,7 +98,7 @@ fn answer(s: State, part: &[u8]) -> Heard
         let next = a.state;
         state = next;
         let end = a.written;
-        if !io::write_all(STDOUT_FILENO, &space[..end]) {
+        if !streams::write_all(streams, &space[..end]) {
             return Heard {
                 reason: WRITE_FAILED,
                 state: s,
@@ -113,13 +121,13 @@ fn end_reason(kind: u8, room: usize) -> u8
 }
 
 // The end of the input: a last line may lack its line feed.
-fn finish(s: State, space: &mut [u8]) -> Heard
+fn finish(streams: Streams<'_>, s: State, space: &mut [u8]) -> Heard
     ensures { Finishes s space.old result space.new }
 {
     let reason = end_reason(s.kind, space.len());
     let a = session::finish(s, space);
     let end = a.written;
-    if !io::write_all(STDOUT_FILENO, &space[..end]) {
+    if !streams::write_all(streams, &space[..end]) {
         return Heard {
             reason: WRITE_FAILED,
             state: s,
@@ -130,9 +138,10 @@ fn finish(s: State, space: &mut [u8]) -> Heard
 }
 
 // What is made of a read: of what it gave, of whether it was only interrupted, and of what it brought. The
-// texts go to standard output. A read that failed is no end of the input: the line that is begun is not
-// answered. The space is for the text at a last line that lacks its line feed.
+// texts go to standard output, and that a write failed is said. A read that failed is no end of the input:
+// the line that is begun is not answered. The space is for the text at a last line that lacks its line feed.
 pub fn hear<'a>(
+    streams: Streams<'_>,
     s: State,
     got: isize,
     interrupted: bool,
@@ -155,14 +164,16 @@ pub fn hear<'a>(
     }
     let n = io::count(got, input);
     if n == 0 {
-        return finish(s, space);
+        return finish(streams, s, space);
     }
-    answer(s, &input[..n])
+    answer(streams, s, &input[..n])
 }
 
-// Turn by turn, a read each. A proved loop has to end, and nothing says that the input does: so many
-// reads are made at most.
-fn turns(kind: u8, reads: u64) -> Ran
+// The program of a kind, of at most so many reads: how it ended, how many were left, and the state at its
+// end. It goes turn by turn, a read each, and what failed is said. A proved loop has to end, and nothing
+// says that the input does. (A line that is begun when no read is left is not answered: 2^64 - 1 reads are
+// more than any run makes.)
+pub fn run(streams: Streams<'_>, kind: u8, reads: u64) -> Ran
     ensures { RunPromise kind reads result }
 {
     let mut input = io::large_buffer();
@@ -171,9 +182,8 @@ fn turns(kind: u8, reads: u64) -> Ran
     let mut left = reads;
     while left > 0 {
         left -= 1;
-        let got = libc::read(STDIN_FILENO, &mut input);
-        let interrupted = os::errno() == EINTR;
-        let h = hear(s, got, interrupted, &input, &mut space);
+        let given = streams::read(streams, &mut input);
+        let h = hear(streams, s, given.got, given.interrupted, &input, &mut space);
         let reason = h.reason;
         let next = h.state;
         s = next;
@@ -190,27 +200,4 @@ fn turns(kind: u8, reads: u64) -> Ran
         reads: 0,
         state: s,
     }
-}
-
-// A read or a write that failed is said on standard error, under the program's name.
-fn complain(name: &[u8], reason: u8) {
-    if reason == READ_FAILED {
-        io::write_all(STDERR_FILENO, name);
-        os::fail(b": standard input cannot be read");
-    }
-    if reason == WRITE_FAILED {
-        io::write_all(STDERR_FILENO, name);
-        os::fail(b": standard output cannot be written");
-    }
-}
-
-// The program of a kind, of at most so many reads: how it ended, how many were left, and the state at its
-// end. What failed is said. (A line that is begun when no read is left is not answered: 2^64 - 1 reads are
-// more than any run makes.)
-pub fn run(kind: u8, name: &[u8], reads: u64) -> Ran
-    ensures { RunPromise kind reads result }
-{
-    let r = turns(kind, reads);
-    complain(name, r.reason);
-    r
 }

@@ -3,6 +3,14 @@
 // and written is tested.
 #![tactic(auto)]
 
-fn main() {
-    program::run(session::SEND, b"send", u64::MAX);
+use program::Streams;
+
+fn main(rt: HostRuntime) {
+    let streams = Streams {
+        input: rt.stdin(),
+        output: rt.stdout(),
+        errors: rt.stderr(),
+        name: b"send",
+    };
+    program::run(streams, session::SEND, u64::MAX);
 }
