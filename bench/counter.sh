@@ -28,18 +28,18 @@ counted() {
     echo "$n"
 }
 
-# run PROGRAM: on another machine under the toolchain's emulator, and ours by the toolchain's loader too
+# run PROGRAM: on another machine under the emulator qemu-x86_64, and ours by the toolchain's loader too
 run() {
     if [ "$machine" = x86_64 ]; then
         "$1"
         return
     fi
     kit=${RATTLE_HOME:-$(dirname "$(dirname "$(readlink -f "$(command -v rt)")")")}
-    tools=$kit/on/$machine/toolchain
+    lib=$kit/toolchain/lib
     case $1 in
-        target/*) set -- "$tools/lib/ld-linux-x86-64.so.2" --library-path "$tools/lib" "$1" ;;
+        crates/*) set -- "$lib/ld-linux-x86-64.so.2" --library-path "$lib" "$1" ;;
     esac
-    "$tools/bin/qemu-x86_64" "$@"
+    qemu-x86_64 "$@"
 }
 
 # compiler: the first C compiler that makes x86-64 programs, with its flags; nothing where there is none
@@ -66,8 +66,8 @@ copies() {
     awk -v n="$2" 'NR == 1 { print } NR == 2 { while (n-- > 0) print }' "$1"
 }
 
-# ready PROGRAM..: proves and builds the programs, with `made` a folder for what is made on the way, where rt and a
-# counter are there
+# ready PROGRAM..: proves and builds the programs, where one is not there or a source is newer, with `made` a folder for what
+# is made on the way, where rt and a counter are there
 ready() {
     command -v rt >/dev/null || needs "rt, the toolchain's command, on the path"
     if [ -z "${COUNTER:-}" ]; then
@@ -76,8 +76,10 @@ ready() {
     fi
     made=$(mktemp -d)
     trap 'rm -rf "$made"' EXIT
-    rt check "$@" >"$made/said" 2>&1 || {
-        cat "$made/said" >&2
-        exit 1
-    }
+    for program; do
+        bin/run --make "$who" "$program" >"$made/said" 2>&1 || {
+            cat "$made/said" >&2
+            exit 1
+        }
+    done
 }

@@ -4,8 +4,8 @@
  * says, for every input that keeps the four rules below. The proof ends at this boundary: nothing
  * checks the rules, and neither the compiler nor this header is proved.
  *
- * To link:   rt staticlib collierbud
- *            cc -Iinclude yours.c target/staticlib/libcollierbud.a
+ * To link:   (cd crates/collierbud && rt lib)
+ *            cc -Iinclude yours.c crates/collierbud/out/libcollierbud.a
  *
  * Linux on x86-64 alone (the System V calling convention). The archive has these three names and no
  * other; of the C library it needs memcpy and memset. A call keeps nothing and shares nothing: there

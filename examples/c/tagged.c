@@ -1,8 +1,8 @@
 /* Monday's tariff of the sample week (examples/week.txt): tagged, checked, sent as a frame and opened,
  * and refused where a bit of it was turned on the way. tagged.out is what this prints.
  *
- *     rt staticlib collierbud
- *     cc -Iinclude examples/c/tagged.c target/staticlib/libcollierbud.a -o tagged && ./tagged
+ *     (cd crates/collierbud && rt lib)
+ *     cc -Iinclude examples/c/tagged.c crates/collierbud/out/libcollierbud.a -o tagged && ./tagged
  */
 #include <inttypes.h>
 #include <stdio.h>

@@ -1,6 +1,6 @@
 //! Collierbud for Rust: the three functions are declared as the archive has them, and wrapped once, so that the rest of a
 //! program is safe code. What they take and answer stands in include/collierbud.h. To use it, copy this file or name it
-//! by its path, and link target/staticlib/libcollierbud.a, which `rt staticlib collierbud` makes.
+//! by its path, and link crates/collierbud/out/libcollierbud.a, which `rt lib` in crates/collierbud makes.
 
 // A slice crosses as a pointer and a length; that of a Rust slice is never null, nor lent twice.
 #[link(name = "collierbud", kind = "static")]

@@ -1,7 +1,7 @@
 //! What examples/c/tagged.c does, from Rust. It prints examples/c/tagged.out.
 //!
-//!     rt staticlib collierbud
-//!     rustc --edition 2021 -L target/staticlib examples/rust/main.rs -o tagged && ./tagged
+//!     (cd crates/collierbud && rt lib)
+//!     rustc --edition 2021 -L crates/collierbud/out examples/rust/main.rs -o tagged && ./tagged
 
 mod collierbud;
 
