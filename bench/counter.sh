@@ -77,7 +77,7 @@ ready() {
     made=$(mktemp -d)
     trap 'rm -rf "$made"' EXIT
     for program; do
-        bin/run --make "$who" "$program" >"$made/said" 2>&1 || {
+        bin/run --make "$program" >"$made/said" 2>&1 || {
             cat "$made/said" >&2
             exit 1
         }
