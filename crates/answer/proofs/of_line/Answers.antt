@@ -8,23 +8,13 @@ use borrow.Author.Rules.{rules}
 use Rattle.answer.proofs.of_line.Goals as goal
 
 pub returns-then-d-ne-DONE : goal.returns-then-d-ne-DONE
-returns-then-d-ne-DONE c =
-    let at-decode = c.before.before.before.before in
-    line_refused _ _ _ (search rules) at-decode.decode-d.ensures c.if-d-ne-DONE.true c.refused.ensures
+returns-then-d-ne-DONE c = line_refused _ _ _ (search rules) c.decode-d.ensures c.if-d-ne-DONE.true c.refused.ensures
 
 pub slice_bounds-space-end : goal.slice_bounds-space-end
-slice_bounds-space-end c =
-    let at-decode = c.before.before.before in
-    least_within _ _ (search rules) at-decode.decode-d.ensures
+slice_bounds-space-end c = least_within _ _ (search rules) c.decode-d.ensures
 
 pub slice_bounds-judge-end : goal.slice_bounds-judge-end
-slice_bounds-judge-end c =
-    let at-decode = c.before.before.before.before in
-    sym
-    (length-take-le _ _
-    (least_within _ _ (search rules) at-decode.decode-d.ensures))
+slice_bounds-judge-end c = sym (length-take-le _ _ (least_within _ _ (search rules) c.decode-d.ensures))
 
 pub returns : goal.returns
-returns c =
-    let at-decode = c.before.before.before.before.before in
-    line_judged _ _ _ (search rules) at-decode.decode-d.ensures c.if-d-ne-DONE.false c.judge.ensures
+returns c = line_judged _ _ _ (search rules) c.decode-d.ensures c.if-d-ne-DONE.false c.judge.ensures

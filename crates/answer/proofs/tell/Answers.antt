@@ -8,7 +8,4 @@ pub returns-then-space-lt-ANSWER : goal.returns-then-space-lt-ANSWER
 returns-then-space-lt-ANSWER c = tells_nothing _ _ _ c.if-space-lt-ANSWER.true
 
 pub returns : goal.returns
-returns c =
-    let at-encode = c.before.before in
-    let at-bytes = at-encode.before.before.before in
-    tells_encoded _ _ _ at-bytes.bytes_of-bytes.ensures at-bytes.if-space-lt-ANSWER.false at-encode.encode.ensures
+returns c = tells_encoded _ _ _ c.bytes_of-bytes.ensures c.if-space-lt-ANSWER.false c.encode.ensures

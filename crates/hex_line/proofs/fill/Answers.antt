@@ -13,9 +13,7 @@ pub bounds-space-i : goal.bounds-space-i
 bounds-space-i c = front_within c.loop-i.invariant (search rules)
 
 pub loop-i-preserved : goal.loop-i-preserved
-loop-i-preserved c =
-    front_put c.loop-i.invariant (search rules)
-    (decoded_pair _ c.requires.0 c.loop-i.i (search rules) c.byte.ensures)
+loop-i-preserved c = front_put c.loop-i.invariant (search rules) (decoded_pair _ c.requires.0 c.loop-i.i (search rules) c.byte.ensures)
 
 pub shape_of-space : goal.shape_of-space
 shape_of-space c = laid_length c.loop-i.invariant

@@ -26,6 +26,4 @@ overflow_add-result c =
     search rules
 
 pub returns : goal.returns
-returns c =
-    let at-lay = c.before.before in
-    tells_fed _ _ _ at-lay.if-space-lt-MOST_TEXT.false at-lay.lay-end.ensures
+returns c = tells_fed _ _ _ c.if-space-lt-MOST_TEXT.false c.lay-end.ensures

@@ -19,7 +19,4 @@ pub slice_bounds-step-end : goal.slice_bounds-step-end
 slice_bounds-step-end c = sym (length-take-le _ _ (lacking_within c.args.s.count c.lacking-end.ensures))
 
 pub returns : goal.returns
-returns c =
-    let at-lacking = c.before.before.before.before.before in
-    let a = at-lacking.before.before in
-    step_lacking a.args.s a.args.space.now (size (goal.at.returns c).Start) at-lacking.lacking-end.ensures c.step.ensures
+returns c = step_lacking c.args.s c.args.space.now (size (goal.at.returns c).Start) c.lacking-end.ensures c.step.ensures

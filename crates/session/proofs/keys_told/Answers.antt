@@ -7,6 +7,4 @@ pub returns-then-made-eq-DONE : goal.returns-then-made-eq-DONE
 returns-then-made-eq-DONE c = keys_accepted _ _ _ _ c.if-made-eq-DONE.true
 
 pub returns : goal.returns
-returns c =
-    let at_told = c.before.before in
-    keys_refused _ _ _ _ at_told.if-made-eq-DONE.false at_told.refusal_told-written.ensures
+returns c = keys_refused _ _ _ _ c.if-made-eq-DONE.false c.refusal_told-written.ensures

@@ -6,16 +6,13 @@ use Rattle.session.proofs.line_told.Goals as goal
 
 pub returns-then-stage-eq-AWAITS_KEYS : goal.returns-then-stage-eq-AWAITS_KEYS
 returns-then-stage-eq-AWAITS_KEYS c =
-    let at_read = c.before.before.before.before in
-    let a = at_read.args in
-    tells_keys _ (session_of a.stage a.keys) _ _ _ at_read.if-stage-eq-AWAITS_KEYS.true at_read.read.ensures
-    c.keys_told.ensures
+    let a = c.args in
+    tells_keys _ (session_of a.stage a.keys) _ _ _ c.if-stage-eq-AWAITS_KEYS.true c.read.ensures c.keys_told.ensures
 
 pub returns-then-stage-eq-HAS_KEYS : goal.returns-then-stage-eq-HAS_KEYS
 returns-then-stage-eq-HAS_KEYS c =
-    let at-if = c.before.before.before.before in
-    let a = at-if.args in
-    tells_line _ (session_of a.stage a.keys) _ _ _ at-if.if-stage-eq-AWAITS_KEYS.false at-if.if-stage-eq-HAS_KEYS.true c.tell-written.ensures
+    let a = c.args in
+    tells_line _ (session_of a.stage a.keys) _ _ _ c.if-stage-eq-AWAITS_KEYS.false c.if-stage-eq-HAS_KEYS.true c.tell-written.ensures
 
 pub returns : goal.returns
 returns c =

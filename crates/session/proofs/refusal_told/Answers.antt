@@ -7,8 +7,4 @@ pub returns-then-kind-eq-SEND : goal.returns-then-kind-eq-SEND
 returns-then-kind-eq-SEND c = wrote_silent _ _ _ _ c.if-kind-eq-SEND.true
 
 pub returns : goal.returns
-returns c =
-    let at-tell = c.before.before in
-    let at-refused = at-tell.before.before in
-    let at-if = at-refused.before in
-    wrote_refusal _ _ _ at-if.requires _ at-if.if-kind-eq-SEND.false at-refused.refused.ensures at-tell.tell.ensures
+returns c = wrote_refusal _ _ _ c.requires _ c.if-kind-eq-SEND.false c.refused.ensures c.tell.ensures

@@ -10,29 +10,21 @@ use Rattle.lines.proofs.Moving.{line_within}
 use Rattle.session.proofs.Turning.{gathered_within, told_within, turned_part, turned_line}
 use borrow.Author.Rules.{rules}
 use Rattle.session.proofs.take_turn.Goals as goal
-use Rattle.session.proofs.take_turn.Goals.{Else-end-part}
+use Rattle.session.proofs.take_turn.Goals.{Else-end-part, After-line_told-t}
 
 stop_fits : (c : Else-end-part) → Fits w64 (c.find-end.result + 1)
 stop_fits c = search rules
 
-out_fits : (c : ?After-line-told)
-    → Fits w64 (c.args.out
-    + c.line_told-t.result.written)
+out_fits : (c : After-line_told-t) → Fits w64 (c.args.out + c.line_told-t.result.written)
 out_fits c =
-    let a = c.before.before.before.before.before.before.before.before.before.before.before.before in
-    let h = told_within _ _ _ _ _ c.line_told-t.ensures a.requires.room in
+    let h = told_within _ _ _ _ _ c.line_told-t.ensures c.requires.room in
     search rules
 
 pub slice_bounds-gather-end : goal.slice_bounds-gather-end
-slice_bounds-gather-end c =
-    let a = c.before.before.before.before.before in
-    (line_within _ _ c.find-end.ensures (omega (arith, a.requires.more))).1
+slice_bounds-gather-end c = (line_within _ _ c.find-end.ensures (omega (arith, c.requires.more))).1
 
 pub returns-then-end-part : goal.returns-then-end-part
-returns-then-end-part c =
-    let at-find = c.before.before.before.before in
-    let a = at-find.before.before.before.before.before in
-    turned_part _ _ _ _ _ a.requires at-find.find-end.ensures c.gather-g.ensures (search rules)
+returns-then-end-part c = turned_part _ _ _ _ _ c.requires c.find-end.ensures c.gather-g.ensures (search rules)
 
 pub slice_bounds-line-end : goal.slice_bounds-line-end
 slice_bounds-line-end c = gathered_within _ _ _ c.gather-g.ensures
@@ -47,13 +39,9 @@ pub overflow_add-result : goal.overflow_add-result
 overflow_add-result c = stop_fits (goal.at.overflow_add-result c).Else-end-part
 
 pub overflow_add-result-2 : goal.overflow_add-result-2
-overflow_add-result-2 c = out_fits c.before.before.before.before
+overflow_add-result-2 c = out_fits (goal.at.overflow_add-result-2 c).After-line_told-t
 
 pub returns : goal.returns
 returns c =
-    let at_told = c.before.before.before.before in
-    let at-gather = at_told.before.before.before.before.before in
-    let at-find = at-gather.before.before in
-    let a = at-find.before.before.before.before.before in
-    turned_line _ _ _ _ _ a.requires at-find.find-end.ensures at-gather.gather-g.ensures at_told.if-end-part.false
-    at_told.line_told-t.ensures c.fresh-state.ensures
+    turned_line _ _ _ _ _ c.requires c.find-end.ensures c.gather-g.ensures c.if-end-part.false c.line_told-t.ensures
+    c.fresh-state.ensures

@@ -15,41 +15,34 @@ use Rattle.session.proofs.whole_lines.Goals.{In-loop-keys, After-find-stop, Else
 
 -- there is more to take, and room for another text
 room : (c : In-loop-keys)
-    → (c.loop-keys.i < length c.args.part.now)
-    × (c.loop-keys.o + width c.args.kind
-    ≤ length c.loop-keys.space)
+    → (c.loop-keys.i < length c.args.part.now) × (c.loop-keys.o + width c.args.kind ≤ length c.loop-keys.space)
 room c =
-    let at_width = c.before.before.before in
-    let k = at_width.args.kind in
-    let e = at_width.width-most.ensures in
-    let some : 1 ≤ at_width.width-most.result = omega (arith, e, width_some k) in
+    let k = c.args.kind in
+    let e = c.width-most.ensures in
+    let some : 1 ≤ c.width-most.result = omega (arith, e, width_some k) in
     let f = goes_told _ _ _ _ _ c.goes.ensures c.loop-keys-test.true some in
     (f.0, omega (arith, f.1, e))
 
--- the line ends within the part
-within : (c : After-find-stop)
-    → (c.loop-keys.i ≤ c.find-stop.result)
-    × (c.find-stop.result ≤ length c.args.part.now)
-within c = line_within _ _ c.find-stop.ensures (omega (arith, (room c.before).0))
+-- the line ends within the part, of which there is more
+within : (c : After-find-stop) → c.loop-keys.i < length c.args.part.now
+    → (c.loop-keys.i ≤ c.find-stop.result) × (c.find-stop.result ≤ length c.args.part.now)
+within c more = line_within _ _ c.find-stop.ensures (omega arith)
 
 stop_fits : (c : Else-stop-part) → Fits w64 (c.find-stop.result + 1)
 stop_fits c = search rules
 
-out_fits : (c : After-tell-o)
+out_fits : (c : After-tell-o) → c.loop-keys.o + width c.args.kind ≤ length c.loop-keys.space
     → Fits w64 (c.loop-keys.o + c.tell-o.result)
-out_fits c =
-    let at-loop = c.before.before.before.before.before.before.before in
-    let h = line_told_within _ _ _ _ _ c.tell-o.ensures (room c.before.before.before.before.before).1 in
-    let size = moves_length turn_of (tell_of _) (width _) _ at-loop.loop-keys.invariant in
+out_fits c room =
+    let h = line_told_within _ _ _ _ _ c.tell-o.ensures room in
+    let size = moves_length turn_of (tell_of _) (width _) _ c.loop-keys.invariant in
     search rules
 
 pub loop-keys-init : goal.loop-keys-init
 loop-keys-init c = spans_none _ _ _ _ _ _ c.requires
 
 pub goes-requires : goal.goes-requires
-goes-requires c =
-    let at_width = c.before in
-    omega (arith, at_width.width-most.ensures, width_some at_width.args.kind)
+goes-requires c = omega (arith, c.width-most.ensures, width_some c.args.kind)
 
 pub shape_of-space-then-stop-part : goal.shape_of-space-then-stop-part
 shape_of-space-then-stop-part c = moves_length turn_of (tell_of _) (width _) _ c.loop-keys.invariant
@@ -58,32 +51,36 @@ pub returns-then-stop-part : goal.returns-then-stop-part
 returns-then-stop-part c = c.loop-keys.invariant
 
 pub slice_bounds-tell-start : goal.slice_bounds-tell-start
-slice_bounds-tell-start c = (within (goal.at.slice_bounds-tell-start c).After-find-stop).0
+slice_bounds-tell-start c =
+    let at = goal.at.slice_bounds-tell-start c in
+    (within at.After-find-stop (room at.In-loop-keys).0).0
 
 pub slice_bounds-tell-end : goal.slice_bounds-tell-end
-slice_bounds-tell-end c = (within (goal.at.slice_bounds-tell-end c).After-find-stop).1
+slice_bounds-tell-end c =
+    let at = goal.at.slice_bounds-tell-end c in
+    (within at.After-find-stop (room at.In-loop-keys).0).1
 
 pub tell-o-requires : goal.tell-o-requires
 tell-o-requires c = (room (goal.at.tell-o-requires c).In-loop-keys).1
 
 pub overflow_add-o : goal.overflow_add-o
-overflow_add-o c = out_fits (goal.at.overflow_add-o c).After-tell-o
+overflow_add-o c =
+    let at = goal.at.overflow_add-o c in
+    out_fits at.After-tell-o (room at.In-loop-keys).1
 
 pub overflow_add-i : goal.overflow_add-i
 overflow_add-i c = stop_fits (goal.at.overflow_add-i c).Else-stop-part
 
 pub loop-keys-smaller : goal.loop-keys-smaller
 loop-keys-smaller c =
-    let at-find = c.before.before.before.before.before.before in
-    omega (arith, (within (goal.at.loop-keys-smaller c).After-find-stop).0, (room (goal.at.loop-keys-smaller c).In-loop-keys).0)
+    let at = goal.at.loop-keys-smaller c in
+    let more = (room at.In-loop-keys).0 in
+    omega (arith, more, (within at.After-find-stop more).0)
 
 pub loop-keys-preserved : goal.loop-keys-preserved
 loop-keys-preserved c =
-    let at-tell = c.before.before in
-    let at-if = at-tell.before.before.before in
-    let at-find = at-if.before in
-    spans_line _ _ _ at-find.loop-keys.invariant (room (goal.at.loop-keys-preserved c).In-loop-keys).1 at-find.find-stop.ensures at-if.if-stop-part.false
-    at-tell.tell-o.ensures
+    spans_line _ _ _ c.loop-keys.invariant (room (goal.at.loop-keys-preserved c).In-loop-keys).1 c.find-stop.ensures c.if-stop-part.false
+    c.tell-o.ensures
 
 pub shape_of-space : goal.shape_of-space
 shape_of-space c = moves_length turn_of (tell_of _) (width _) _ c.loop-keys.invariant

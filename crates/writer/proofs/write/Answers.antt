@@ -23,19 +23,16 @@ returns-then-number-ne-DONE c = write_refused _ _ _ c.fault-number.ensures c.if-
 
 pub slice_bounds-made-end : goal.slice_bounds-made-end
 slice_bounds-made-end c =
-    let at_size = c.before.before.before.before in
     let f = (writes_told _ _ _ (none (goal.at.slice_bounds-made-end c).Else-number-ne-DONE)).1 in
-    omega (arith, at_size.size-n.ensures, f.set.tag.high)
+    omega (arith, c.size-n.ensures, f.set.tag.high)
 
 pub slice_bounds-append-end : goal.slice_bounds-append-end
 slice_bounds-append-end c =
-    let at_size = c.before.before.before.before.before in
     let f = (writes_told _ _ _ (none (goal.at.slice_bounds-append-end c).Else-number-ne-DONE)).1 in
-    sym (length-take-le _ _ (omega (arith, at_size.size-n.ensures, f.set.tag.high)))
+    sym (length-take-le _ _ (omega (arith, c.size-n.ensures, f.set.tag.high)))
 
 pub slice_bounds-append-count : goal.slice_bounds-append-count
 slice_bounds-append-count c =
-    let at_size = c.before.before.before.before.before in
     let f = writes_told _ _ _ (none (goal.at.slice_bounds-append-count c).Else-number-ne-DONE) in
     let r = f.0 in
     let m = f.1.most in
@@ -43,7 +40,6 @@ slice_bounds-append-count c =
 
 pub slice_bounds-append-start : goal.slice_bounds-append-start
 slice_bounds-append-start c =
-    let at_size = c.before.before.before.before.before in
     let f = writes_told _ _ _ (none (goal.at.slice_bounds-append-start c).Else-number-ne-DONE) in
     let r = f.0 in
     let m = f.1.most in
@@ -51,18 +47,14 @@ slice_bounds-append-start c =
 
 pub overflow_add-result : goal.overflow_add-result
 overflow_add-result c =
-    let at_size = c.before.before.before.before.before.before.before.before.before.before in
     let f = (writes_told _ _ _ (none (goal.at.overflow_add-result c).Else-number-ne-DONE)).1 in
     let m = f.most in
-    let n = at_size.size-n.ensures in
+    let n = c.size-n.ensures in
     search rules
 
 pub returns : goal.returns
 returns c =
-    let at-append = c.before.before.before in
-    let at-encode = at-append.before.before.before.before.before in
-    let at_size = at-encode.before.before in
     let f = (writes_told _ _ _ (none (goal.at.returns c).Else-number-ne-DONE)).1 in
-    let few : at_size.size-n.result ≤ 16 = omega (arith, at_size.size-n.ensures, f.set.tag.high) in
-    written_whole _ _ _ (none (goal.at.returns c).Else-number-ne-DONE) at_size.size-n.ensures refl (length-take-le _ _ few) (search rules)
-    at-encode.encode.ensures at-append.append-t.ensures
+    let few : c.size-n.result ≤ 16 = omega (arith, c.size-n.ensures, f.set.tag.high) in
+    written_whole _ _ _ (none (goal.at.returns c).Else-number-ne-DONE) c.size-n.ensures refl (length-take-le _ _ few) (search rules)
+    c.encode.ensures c.append-t.ensures
