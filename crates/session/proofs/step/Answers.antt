@@ -2,7 +2,6 @@
 -- text.
 -- Assumes nothing.
 use mathlib.Core.Path.{◌≡◌, ap, sym, ◌∙◌}
-use Prim.Native.Nat.{◌-◌}
 use native.Mathlib.Omega.{arith}
 use lib.ListN.{length}
 use Rattle.lines.proofs.Moving.{moves_length}
@@ -10,7 +9,7 @@ use Rattle.session.specs.declared.State.{State}
 use Rattle.session.specs.Session.{width, turn_of, tell_of}
 use Rattle.session.specs.Inner.{Ready}
 use Rattle.session.proofs.Telling.{width_some}
-use Rattle.session.proofs.Stepping.{Stepping, begins_within, stepping_none, passes_within, stepping_length, stepping_ready}
+use Rattle.session.proofs.Stepping.{begins_within, stepping_none, passes_within, stepping_length, stepping_ready}
 use Rattle.session.proofs.Stepping.{stepping_more, stepping_less, none_left, step_whole, tidied_tidy, tidied_kind, tidied_step}
 use borrow.Author.Rules.{rules}
 use Rattle.session.proofs.step.Goals as goal

@@ -1,7 +1,6 @@
-use mathlib.Core.Path.{◌≡◌, ap, sym, ◌∙◌}
 use Prim.Native.Nat.{◌-◌}
 use lib.ListN.{length}
-use Rattle.session.proofs.Stepping.{Stepping, begins_within, stepping_none, passes_within, stepping_length, stepping_ready}
+use Rattle.session.proofs.Stepping.{Stepping}
 use Rattle.session.proofs.step.Given as goal
 
 abbrev pub invariant-loop-before : goal.invariant-loop-before

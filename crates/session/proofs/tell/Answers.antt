@@ -1,7 +1,6 @@
 -- `session::tell` meets its contract. By the kind; the text is told in what is left of the space.
 -- Assumes nothing.
 use Rattle.session.proofs.Telling.{wrote_sent, wrote_verdict}
-use Rattle.outgoing.proofs.tell.Reads as tell-reads'
 use Rattle.session.proofs.tell.Goals as goal
 
 pub returns-then-kind-eq-SEND : goal.returns-then-kind-eq-SEND
