@@ -192,7 +192,8 @@ module _ {A : Type 0} (turn : A → List ℕ → A) (tell : A → List ℕ → L
         unfolding said
         said_upto =
             said_append turn tell r lent (line_feed ∷ [])
-            ∙ ap₂ (λ (x : List ℕ) (y : Reader A). x ++ said turn tell y (line_feed ∷ [])) (said_plain turn tell r lent lent_plain) reads_lent
+            ∙ ap₂ (λ (x : List ℕ) (y : Reader A). x ++ said turn tell y (line_feed ∷ [])) (said_plain turn tell r lent lent_plain)
+            reads_lent
             ∙ said_feed turn tell (record { session = r.session; line = line }) [] ∙ append-nil (tell r.session line)
 
         pub moves_line : {n : ℕ} {after : List ℕ} → Wrote (tell r.session line) space out n after → n ≤ width → at ≤ end

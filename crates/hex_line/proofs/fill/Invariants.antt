@@ -1,3 +1,5 @@
+-- What each turn of `hex_line::fill` keeps: the first i bytes stand at the front of the space.
+-- Assumes nothing.
 use Prim.Native.Nat.{◌-◌}
 use Rattle.laws.proofs.Laid.{Laid}
 use Rattle.hex_line.specs.Line.{decoded}

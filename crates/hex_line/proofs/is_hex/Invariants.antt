@@ -1,3 +1,5 @@
+-- What each turn of `hex_line::is_hex` keeps: the faults of the first i characters are gathered.
+-- Assumes nothing.
 use Prim.Native.Nat.{◌-◌}
 use lib.ListN.{length}
 use Rattle.hex_line.proofs.Judging.{Gathered}

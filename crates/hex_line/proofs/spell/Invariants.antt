@@ -1,3 +1,5 @@
+-- What each turn of `hex_line::spell` keeps: the characters of the first i bytes stand at the front of the space.
+-- Assumes nothing.
 use Prim.Native.Nat.{◌-◌, ◌*◌}
 use lib.ListN.{length}
 use Rattle.laws.proofs.Laid.{Laid}

@@ -1,3 +1,5 @@
+-- What each turn of `lines::clear` keeps: nothing was gathered only where none of the first i characters is a line feed.
+-- Assumes nothing.
 use Prim.Native.Nat.{◌-◌, ◌≤◌}
 use lib.ListN.{drop}
 use Rattle.lines.proofs.Finding.{Clear}

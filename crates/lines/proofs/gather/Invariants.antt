@@ -1,3 +1,5 @@
+-- What each turn of `lines::gather` keeps: the first i characters stand behind the line, as many as are kept.
+-- Assumes nothing.
 use Prim.Native.Nat.{◌-◌}
 use lib.ListN.{length, take}
 use Rattle.lines.proofs.Gathering.{Gathering}

@@ -1,3 +1,5 @@
+-- What each turn of `lines::skip` keeps: from the place that was come to the line ends where it does.
+-- Assumes nothing.
 use Prim.Native.Nat.{◌-◌}
 use lib.ListN.{length}
 use Rattle.lines.proofs.Finding.{Leads}

@@ -1,3 +1,5 @@
+-- What each turn of `lines::tidy` keeps: the first i characters stand in the array, with zeros behind them.
+-- Assumes nothing.
 use Prim.Native.Nat.{◌-◌}
 use Rattle.lines.proofs.Tidied.{Tidied}
 use Rattle.lines.proofs.tidy.Given as goal

@@ -1,3 +1,5 @@
+-- What each turn of `session::step` keeps: the state and the space are those behind the characters that were taken.
+-- Assumes nothing.
 use Prim.Native.Nat.{◌-◌}
 use lib.ListN.{length}
 use Rattle.session.proofs.Stepping.{Stepping}

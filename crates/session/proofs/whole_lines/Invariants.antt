@@ -1,3 +1,5 @@
+-- What each turn of `session::whole_lines` keeps: the lines so far are told in the space, and the reader is between lines.
+-- Assumes nothing.
 use Prim.Native.Nat.{◌-◌}
 use lib.ListN.{length}
 use Rattle.session.specs.Inner.{Passes, between}
