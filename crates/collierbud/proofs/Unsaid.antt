@@ -1,6 +1,5 @@
 -- Where no order is said, the exported calls have the outcomes of order 2: the key set that they make is the same.
 -- Assumes nothing.
-use mathlib.Core.Path.{◌≡◌}
 use Rattle.keys.proofs.Number.{order_unsaid}
 use Rattle.collierbud.specs.Promise.{tag_once, check_once, open_once}
 use Rattle.collierbud.specs.Unsaid.{OrderUnsaid}

@@ -1,9 +1,7 @@
 -- `block::join` meets its contract. After i turns the first i bytes are entered, and 16 - i turns are left.
 -- Assumes nothing.
 use Rattle.block.specs.Block.{sixteen}
-use Rattle.laws.proofs.Entered.{Entered, entered_none, entered_more, entered_all}
-use Prim.Native.Nat.{◌-◌}
-use mathlib.Core.List.{◌++◌}
+use Rattle.laws.proofs.Entered.{entered_none, entered_more, entered_all}
 use borrow.Author.Rules.{rules}
 use Rattle.block.proofs.join.Goals as goal
 

@@ -1,4 +1,4 @@
-use Rattle.laws.proofs.Entered.{Entered, entered_none, entered_more, entered_all}
+use Rattle.laws.proofs.Entered.{Entered}
 use lib.ListN.{get_or, take}
 use Prim.Native.Nat.{◌-◌}
 use mathlib.Core.List.{◌++◌}

@@ -3,9 +3,8 @@
 use mathlib.Core.Path.{refl, ap, sym, ◌∙◌}
 use Rattle.laws.proofs.Lent.{lent_rest}
 use Rattle.block.specs.Block.{sixteen}
-use Prim.Native.Nat.{◌+◌, ◌-◌, ◌≤◌}
 use Rattle.laws.proofs.Agree.{table_part}
-use Rattle.laws.proofs.Entered.{Entered, entered_none, entered_more, entered_all}
+use Rattle.laws.proofs.Entered.{entered_none, entered_more, entered_all}
 use Rattle.block.proofs.Sixteen.{sixteen_whole, sixteen_beyond}
 use borrow.Author.Rules.{rules}
 use Rattle.block.proofs.read.Goals as goal

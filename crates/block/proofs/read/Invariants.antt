@@ -1,7 +1,6 @@
-use mathlib.Core.Path.{refl, ap, sym, ◌∙◌}
 use Prim.Native.Nat.{◌+◌, ◌-◌, ◌≤◌}
 use lib.ListN.{length, get_or}
-use Rattle.laws.proofs.Entered.{Entered, entered_none, entered_more, entered_all}
+use Rattle.laws.proofs.Entered.{Entered}
 use Rattle.block.proofs.read.Given as goal
 
 abbrev pub invariant-loop-i : goal.invariant-loop-i

@@ -1,11 +1,10 @@
 -- `block::shift` meets its contract. After i turns the first i bytes are entered; 15 - i turns are left. Nothing stands after byte 15.
 -- Assumes nothing.
 use mathlib.Core.Path.{◌≡◌, sym, ◌∙◌}
-use Prim.Native.Nat.{◌-◌, ◌≤◌}
 use native.Mathlib.Omega.{arith}
 use lib.ListN.{length, get_or, get_or-eq_default}
 use Rattle.laws.proofs.Bytes.{Bytes}
-use Rattle.laws.proofs.Entered.{Entered, entered_none, entered_more, entered_all}
+use Rattle.laws.proofs.Entered.{entered_none, entered_more, entered_all}
 use Rattle.block.proofs.Block.{shifted_at, shifted_bytes}
 use borrow.Author.Rules.{rules}
 use Rattle.block.proofs.shift.Goals as goal

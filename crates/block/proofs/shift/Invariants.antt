@@ -1,8 +1,8 @@
-use mathlib.Core.Path.{◌≡◌, sym, ◌∙◌}
+use mathlib.Core.Path.{◌≡◌}
 use Prim.Native.Nat.{◌-◌, ◌≤◌}
-use lib.ListN.{length, get_or, get_or-eq_default}
-use Rattle.laws.proofs.Entered.{Entered, entered_none, entered_more, entered_all}
-use Rattle.block.proofs.Block.{shifted_at, shifted_bytes}
+use lib.ListN.{length}
+use Rattle.laws.proofs.Entered.{Entered}
+use Rattle.block.proofs.Block.{shifted_at}
 use Rattle.block.proofs.shift.Given as goal
 
 abbrev pub invariant-loop-i : goal.invariant-loop-i

@@ -1,9 +1,8 @@
 -- `block::xor` meets its contract. After i turns the first i bytes are entered; 16 - i turns are left.
 -- Assumes nothing.
 use mathlib.Core.Path.{refl}
-use Prim.Native.Nat.{◌-◌}
 use native.Mathlib.Omega.{arith}
-use Rattle.laws.proofs.Entered.{Entered, entered_none, entered_more, entered_all}
+use Rattle.laws.proofs.Entered.{entered_none, entered_more, entered_all}
 use Rattle.block.specs.Block.{◌⊕◌}
 use borrow.Author.Rules.{rules}
 use Rattle.block.proofs.xor.Goals as goal

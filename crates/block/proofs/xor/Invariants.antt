@@ -1,8 +1,7 @@
 use Prim.Native.Nat.{◌-◌}
 use lib.Bits.{bit_xor}
 use lib.ListN.{get_or}
-use Rattle.laws.proofs.Entered.{Entered, entered_none, entered_more, entered_all}
-use Rattle.block.specs.Block.{◌⊕◌}
+use Rattle.laws.proofs.Entered.{Entered}
 use Rattle.block.proofs.xor.Given as goal
 
 abbrev pub invariant-loop-i : goal.invariant-loop-i

@@ -5,6 +5,4 @@ use Rattle.collierbud.proofs.collierbud_check.Goals as goal
 
 pub returns : goal.returns
 returns c =
-    let at-put = c.before.before in
-    let at-checked = at-put.before.before in
-    check_together _ _ _ _ at-checked.key_call-made.ensures _ _ _ at-checked.checked-a.ensures at-put.put_two.ensures
+    check_together _ _ _ _ c.key_call-made.ensures _ _ _ c.checked-a.ensures c.put_two.ensures

@@ -5,6 +5,4 @@ use Rattle.collierbud.proofs.collierbud_open.Goals as goal
 
 pub returns : goal.returns
 returns c =
-    let at-put = c.before.before in
-    let at-opened = at-put.before.before in
-    open_together _ _ _ _ at-opened.key_call-made.ensures _ _ at-opened.opened-a.ensures at-put.put_three.ensures
+    open_together _ _ _ _ c.key_call-made.ensures _ _ c.opened-a.ensures c.put_three.ensures

@@ -1,14 +1,14 @@
 -- `engine::absorb` meets its contract. By the room that the counts have; after i turns the first i whole blocks are taken, and n - i
 -- turns are left.
 -- Assumes nothing.
-use mathlib.Core.Path.{◌≡◌, refl, sym, ◌∙◌}
-use Prim.Native.Nat.{◌-◌, ◌*◌, ◌/◌, ◌<◌}
+use mathlib.Core.Path.{refl, sym, ◌∙◌}
+use Prim.Native.Nat.{◌*◌}
 use native.Mathlib.Omega.{arith}
 use Rattle.block.proofs.Sixteen.{sixteen_whole}
-use Rattle.engine.specs.Engine.{chain_step, walked}
+use Rattle.engine.specs.Engine.{walked}
 use Rattle.laws.proofs.Cases.{test_fails, test_holds}
 use Rattle.engine.proofs.Room.{room_is, absorbed_room, absorbed_not}
-use Rattle.engine.proofs.Walking.{Walking, walking_none, walking_place, walking_room}
+use Rattle.engine.proofs.Walking.{walking_none, walking_place, walking_room}
 use Rattle.engine.proofs.Walking.{walking_more, walking_all}
 use borrow.Author.Rules.{rules}
 use Rattle.engine.proofs.absorb.Goals as goal
@@ -42,6 +42,5 @@ loop-i-preserved c =
 pub returns : goal.returns
 unfolding walked
 returns c =
-    let h = c.before.before in
     walking_all c.loop-i.invariant.3 (search rules)
-    ∙ sym (absorbed_room _ _ _ _ _ _ (test_holds h.has_room.ensures h.if-not-has_room.false))
+    ∙ sym (absorbed_room _ _ _ _ _ _ (test_holds c.has_room.ensures c.if-not-has_room.false))

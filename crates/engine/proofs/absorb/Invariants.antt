@@ -1,8 +1,8 @@
-use mathlib.Core.Path.{◌≡◌, refl, sym, ◌∙◌}
-use Prim.Native.Nat.{◌-◌, ◌*◌, ◌/◌, ◌<◌}
+use mathlib.Core.Path.{◌≡◌}
+use Prim.Native.Nat.{◌-◌, ◌/◌, ◌<◌}
 use lib.ListN.{length}
-use Rattle.engine.specs.Engine.{chain_step, walked}
-use Rattle.engine.proofs.Walking.{Walking, walking_none, walking_place, walking_room}
+use Rattle.engine.specs.Engine.{chain_step}
+use Rattle.engine.proofs.Walking.{Walking}
 use Rattle.engine.proofs.absorb.Given as goal
 
 abbrev pub invariant-loop-i : goal.invariant-loop-i

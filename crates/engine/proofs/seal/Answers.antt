@@ -11,11 +11,9 @@ returns-then-not-has_room c = sym (sealed_not _ _ _ _ _ (test_fails c.has_room.e
 
 pub overflow_add-result : goal.overflow_add-result
 overflow_add-result c =
-    let h = c.before.before.before in
-    record { fits = omega (arith, (room_is _ (test_holds h.has_room.ensures h.if-not-has_room.false)).wholes) }
+    record { fits = omega (arith, (room_is _ (test_holds c.has_room.ensures c.if-not-has_room.false)).wholes) }
 
 pub returns : goal.returns
 returns c =
-    let h = c.before.before.before in
     sealing_is _ _ _ _ _ _ _ c.closing.ensures c.encrypt_block-value.ensures
-    ∙ sym (sealed_room _ _ _ _ _ (test_holds h.has_room.ensures h.if-not-has_room.false))
+    ∙ sym (sealed_room _ _ _ _ _ (test_holds c.has_room.ensures c.if-not-has_room.false))

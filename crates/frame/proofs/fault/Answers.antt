@@ -12,10 +12,8 @@ returns-then-n-gt-LONGEST c = frame_long _ _ c.set_fault-set.ensures c.if-set-ne
 
 pub returns-then-n-size : goal.returns-then-n-size
 returns-then-n-size c =
-    let at_set = c.before.before.before in
-    frame_short _ _ at_set.set_fault-set.ensures at_set.if-set-ne-DONE.false (omega arith) (omega arith)
+    frame_short _ _ c.set_fault-set.ensures c.if-set-ne-DONE.false (omega arith) (omega arith)
 
 pub returns : goal.returns
 returns c =
-    let at_set = c.before.before.before in
-    frame_none _ _ at_set.set_fault-set.ensures at_set.if-set-ne-DONE.false (omega arith) (omega arith)
+    frame_none _ _ c.set_fault-set.ensures c.if-set-ne-DONE.false (omega arith) (omega arith)

@@ -13,14 +13,11 @@ mostly : (c : Else-s-fours_for)
     → let a = c.args in
     Mostly a.d a.s
 mostly c =
-    let at-wholes = c.before.before.before.before.before in
-    let at-zeros = at-wholes.before.before in
-    let at_held = at-zeros.before.before.before in
     record {
       size = search rules;
-      count = at-zeros.if-n-held_for.false ∙ at_held.held_for.ensures;
-      rest = test_holds at-zeros.zero_from.ensures at-wholes.if-not-zero_from.false;
-      wholes = c.if-s-wholes_for.false ∙ at-wholes.wholes_for.ensures.0;
+      count = c.if-n-held_for.false ∙ c.held_for.ensures;
+      rest = test_holds c.zero_from.ensures c.if-not-zero_from.false;
+      wholes = c.if-s-wholes_for.false ∙ c.wholes_for.ensures.0;
       fours = c.if-s-fours_for.false ∙ c.fours_for.ensures;
     }
 

@@ -1,7 +1,6 @@
 -- `judge::zero_from` meets its contract. After each turn the bytes from i on decide; 16 - i turns are left.
 -- Assumes nothing.
-use mathlib.Core.Path.{◌≡◌, refl, sym, ◌∙◌}
-use Prim.Native.Nat.{◌-◌}
+use mathlib.Core.Path.{refl, sym, ◌∙◌}
 use Rattle.judge.proofs.Zeros.{zeros_end, zeros_more, zeros_stop}
 use borrow.Author.Rules.{rules}
 use Rattle.judge.proofs.zero_from.Goals as goal

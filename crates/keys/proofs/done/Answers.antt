@@ -5,6 +5,5 @@ use Rattle.keys.proofs.done.Goals as goal
 
 pub returns : goal.returns
 returns c =
-    let b = c.before.before.before.before.before.before in
-    done_is _ _ _ _ _ _ _ _ b.requires.0 b.requires.1 c.expand_key-round.ensures
+    done_is _ _ _ _ _ _ _ _ c.requires.0 c.requires.1 c.expand_key-round.ensures
     c.made-taken.ensures c.double-full.ensures c.double-short.ensures

@@ -10,9 +10,7 @@ use Rattle.message.proofs.fault.Goals as goal
 pub returns : goal.returns
 unfolding message_number
 returns c =
-    let at_last = c.before.before.before in
-    let at_size = at_last.before.before in
-    fault_before _ c.first-3.ensures at_size.set_fault-set.ensures
-    (fault_before _ c.first-2.ensures at_size.size_fault-size.ensures
-    (fault_before _ c.first.ensures (at_last.length_fault-long.ensures ∙ ap length_number (zero-add _))
-    (fault_last at_last.empty_fault-empty.ensures)))
+    fault_before _ c.first-3.ensures c.set_fault-set.ensures
+    (fault_before _ c.first-2.ensures c.size_fault-size.ensures
+    (fault_before _ c.first.ensures (c.length_fault-long.ensures ∙ ap length_number (zero-add _))
+    (fault_last c.empty_fault-empty.ensures)))

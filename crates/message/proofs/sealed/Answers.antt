@@ -12,10 +12,8 @@ slice_bounds-absorb-end c = sym (length-take-le _ _ (search rules))
 
 pub returns : goal.returns
 returns c =
-    let at-absorb = c.before.before.before in
-    let at-start = at-absorb.before.before.before.before.before.before.before.before.before in
-    let k = at-start.args.keys in
-    let M = at-start.args.message.now in
-    message_sealed k M at-start.requires.0 at-start.requires.1 c.seal.ensures
-    (message_chained k M (last_at (length M)) at-absorb.absorb-c.ensures)
+    let k = c.args.keys in
+    let M = c.args.message.now in
+    message_sealed k M c.requires.0 c.requires.1 c.seal.ensures
+    (message_chained k M (last_at (length M)) c.absorb-c.ensures)
     (message_last M (last_at (length M)) c.read-last.ensures)

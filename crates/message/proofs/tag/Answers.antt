@@ -16,7 +16,6 @@ sealed-requires c = let t = tags _ _ _ (sym c.fault-number.ensures ∙ c.if-numb
 
 pub returns : goal.returns
 returns c =
-    let sealed = c.before.before.before.before in
-    let none = sym sealed.fault-number.ensures ∙ sealed.if-number-ne-DONE.false in
+    let none = sym c.fault-number.ensures ∙ c.if-number-ne-DONE.false in
     let t = tags _ _ _ none in
-    making_written _ _ _ _ _ none t.set.tag t.size sealed.sealed.ensures c.write.ensures
+    making_written _ _ _ _ _ none t.set.tag t.size c.sealed.ensures c.write.ensures

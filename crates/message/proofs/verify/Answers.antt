@@ -13,7 +13,6 @@ sealed-requires c = let t = tags _ _ _ (sym c.fault-number.ensures ∙ c.if-numb
 
 pub returns : goal.returns
 returns c =
-    let sealed = c.before in
-    let none = sym sealed.fault-number.ensures ∙ sealed.if-number-ne-DONE.false in
+    let none = sym c.fault-number.ensures ∙ c.if-number-ne-DONE.false in
     let t = tags _ _ _ none in
-    checking_checked _ _ _ _ _ none t.set.tag t.size sealed.sealed.ensures c.compare.ensures
+    checking_checked _ _ _ _ _ none t.set.tag t.size c.sealed.ensures c.compare.ensures

@@ -9,11 +9,9 @@ returns-then-number-ne-DONE c = add_refused _ _ _ c.add_fault-number.ensures c.i
 
 pub extended-requires : goal.extended-requires
 extended-requires c =
-    let at-fault = c.before.before.before.before in
-    let a = adds _ _ _ (sym at-fault.add_fault-number.ensures ∙ at-fault.if-number-ne-DONE.false) in
+    let a = adds _ _ _ (sym c.add_fault-number.ensures ∙ c.if-number-ne-DONE.false) in
     record { form = a.form; fits = a.fits }
 
 pub returns : goal.returns
 returns c =
-    let at-fault = c.before.before.before.before.before in
-    add_walked _ _ _ (sym at-fault.add_fault-number.ensures ∙ at-fault.if-number-ne-DONE.false) c.extended.ensures
+    add_walked _ _ _ (sym c.add_fault-number.ensures ∙ c.if-number-ne-DONE.false) c.extended.ensures

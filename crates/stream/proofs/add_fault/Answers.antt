@@ -7,7 +7,5 @@ use Rattle.stream.proofs.add_fault.Goals as goal
 pub returns : goal.returns
 unfolding add_number
 returns c =
-    let at_last = c.before.before in
-    let at-form = at_last.before in
-    fault_before _ c.first-2.ensures at-form.set_fault-set.ensures
-    (fault_before _ c.first.ensures at-form.stream_fault-form.ensures (fault_last at_last.length_fault-long.ensures))
+    fault_before _ c.first-2.ensures c.set_fault-set.ensures
+    (fault_before _ c.first.ensures c.stream_fault-form.ensures (fault_last c.length_fault-long.ensures))

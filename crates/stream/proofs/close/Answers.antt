@@ -18,7 +18,6 @@ sealed-requires c =
 
 pub returns : goal.returns
 returns c =
-    let sealed = c.before.before.before.before in
-    let none = sym sealed.close_fault-number.ensures ∙ sealed.if-number-ne-DONE.false in
+    let none = sym c.close_fault-number.ensures ∙ c.if-number-ne-DONE.false in
     let t = closes _ _ _ none in
-    making_written _ _ _ _ _ none t.set.tag t.size sealed.sealed.ensures c.write.ensures
+    making_written _ _ _ _ _ none t.set.tag t.size c.sealed.ensures c.write.ensures

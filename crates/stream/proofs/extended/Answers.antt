@@ -17,11 +17,10 @@ overflow_sub-n c = omega (arith, (formed_holds _ _ c.requires.form).most)
 
 pub past-requires : goal.past-requires
 past-requires c =
-    let at-start = c.before.before.before.before in
     record {
-      extends = at-start.requires;
+      extends = c.requires;
       filled = c.join-first.ensures;
-      more = omega (arith, (formed_holds _ _ at-start.requires.form).most, c.if-part-n.true);
+      more = omega (arith, (formed_holds _ _ c.requires.form).most, c.if-part-n.true);
     }
 
 pub returns-then-part-n : goal.returns-then-part-n
@@ -29,9 +28,8 @@ returns-then-part-n c = c.past.ensures
 
 pub returns : goal.returns
 returns c =
-    let at-start = c.before.before.before.before.before.before in
-    let holds = formed_holds _ _ at-start.requires.form in
-    let fits : at-start.args.s.count + length at-start.args.part.now ≤ 16 =
+    let holds = formed_holds _ _ c.requires.form in
+    let fits : c.args.s.count + length c.args.part.now ≤ 16 =
     omega (arith, holds.most, c.if-part-n.false) in
-    added_room _ _ at-start.args.s at-start.args.part.now (fine (goal.at.returns c).Start) _ fits
+    added_room _ _ c.args.s c.args.part.now (fine (goal.at.returns c).Start) _ fits
     c.join-first.ensures

@@ -31,18 +31,14 @@ overflow_sub-done c = omega (arith, (formed_holds _ _ c.requires.extends.form).s
 
 pub taken-c-requires : goal.taken-c-requires
 taken-c-requires c =
-    let at-start = c.before.before.before.before in
-    chain_few _ _ at-start.requires.extends.form c.chain_of.ensures
+    chain_few _ _ c.requires.extends.form c.chain_of.ensures
 
 pub returns : goal.returns
 returns c =
-    let at-taken = c.before.before.before in
-    let at-chain = at-taken.before.before in
-    let at-start = at-chain.before.before.before in
-    let s = at-start.args.s in
-    let p = at-start.args.part.now in
-    let holds = formed_holds _ _ at-start.requires.extends.form in
+    let s = c.args.s in
+    let p = c.args.part.now in
+    let holds = formed_holds _ _ c.requires.extends.form in
     let more = full (goal.at.returns c).Start in
     added_over _ _ s p (fine (goal.at.returns c).Start) (16 - s.count) ((length p - (16 - s.count) - 1) / 16)
     ((s.total - s.count) / 16) (omega (arith, holds.most)) (omega arith) (omega arith) (omega (arith, holds.sum))
-    at-start.requires.filled refl c.read.ensures at-taken.taken-c.ensures at-chain.chain_of.ensures
+    c.requires.filled refl c.read.ensures c.taken-c.ensures c.chain_of.ensures

@@ -17,6 +17,5 @@ value_size c = search rules
 
 pub returns : goal.returns
 returns c =
-    let at-start = c.before.before.before.before.before.before.before in
-    closing_sealed at-start.args.keys at-start.args.s c.chain_of.ensures c.seal.ensures (fine (goal.at.returns c).Start)
-    (value_size (goal.at.returns c).Start) at-start.requires.some
+    closing_sealed c.args.keys c.args.s c.chain_of.ensures c.seal.ensures (fine (goal.at.returns c).Start)
+    (value_size (goal.at.returns c).Start) c.requires.some

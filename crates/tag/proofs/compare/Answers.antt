@@ -13,16 +13,14 @@ returns-then-number-ne-DONE c = c.refused.ensures ∙ checking_refused _ _ _ _ c
 
 pub returns-then-differing-eq0 : goal.returns-then-differing-eq0
 returns-then-differing-eq0 c =
-    let at-if = c.before.before.before.before.before in
-    let a = at-if.args in
+    let a = c.args in
     compared a.made a.bits a.received.now _ _ _ true (eq-eqb _ _ c.if-differing-eq0.true) c.differences-differing.ensures
-    c.read.ensures c.kept.ensures (sym at-if.fault-number.ensures ∙ at-if.if-number-ne-DONE.false)
+    c.read.ensures c.kept.ensures (sym c.fault-number.ensures ∙ c.if-number-ne-DONE.false)
     (λ j. search rules) (search rules)
 
 pub returns-else-differing-eq0 : goal.returns-else-differing-eq0
 returns-else-differing-eq0 c =
-    let at-if = c.before.before.before.before.before in
-    let a = at-if.args in
+    let a = c.args in
     compared a.made a.bits a.received.now _ _ _ false (ne_eqb _ _ c.if-differing-eq0.false) c.differences-differing.ensures
-    c.read.ensures c.kept.ensures (sym at-if.fault-number.ensures ∙ at-if.if-number-ne-DONE.false)
+    c.read.ensures c.kept.ensures (sym c.fault-number.ensures ∙ c.if-number-ne-DONE.false)
     (λ j. search rules) (search rules)

@@ -1,8 +1,7 @@
 -- `tag::differences` meets its contract. After so many turns what the first bytes differ in is gathered. First comes what a comparison
 -- that ends too early fails at: at the end all sixteen have been gathered.
 -- Assumes nothing.
-use Prim.Native.Nat.{◌-◌}
-use Rattle.tag.proofs.Difference.{Gathered, gathered_none, gathered_more, gathered_all}
+use Rattle.tag.proofs.Difference.{gathered_none, gathered_more, gathered_all}
 use borrow.Author.Rules.{rules}
 use Rattle.tag.proofs.differences.Goals as goal
 

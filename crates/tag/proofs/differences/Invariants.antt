@@ -1,5 +1,5 @@
 use Prim.Native.Nat.{◌-◌}
-use Rattle.tag.proofs.Difference.{Gathered, gathered_none, gathered_more, gathered_all}
+use Rattle.tag.proofs.Difference.{Gathered}
 use Rattle.tag.proofs.differences.Given as goal
 
 abbrev pub invariant-loop-at : goal.invariant-loop-at

@@ -2,9 +2,9 @@
 -- 16 - i turns are left.
 -- Assumes nothing.
 use mathlib.Core.Path.{ap, ◌∙◌}
-use Prim.Native.Nat.{ℕ, ◌-◌, ◌*◌}
+use Prim.Native.Nat.{ℕ}
 use lib.ListN.{get_or}
-use Rattle.laws.proofs.Entered.{Entered, entered_none, entered_more, entered_all}
+use Rattle.laws.proofs.Entered.{entered_none, entered_more, entered_all}
 use Rattle.tag.proofs.Front.{front, cut_table, cut_all}
 use borrow.Author.Rules.{rules}
 use Rattle.tag.proofs.kept.Goals as goal
@@ -19,9 +19,8 @@ loop-i-init c = entered_none _ _ _ (search rules)
 
 pub loop-i-preserved : goal.loop-i-preserved
 loop-i-preserved c =
-    let a = c.before.before.before in
-    entered_more a.loop-i.invariant _ (search rules)
-    (c.kept_byte.ensures ∙ ap (λ (k : ℕ). front k (get_or a.args.x a.loop-i.i 0)) c.bits_from.ensures)
+    entered_more c.loop-i.invariant _ (search rules)
+    (c.kept_byte.ensures ∙ ap (λ (k : ℕ). front k (get_or c.args.x c.loop-i.i 0)) c.bits_from.ensures)
 
 pub returns : goal.returns
 returns c =

@@ -1,8 +1,7 @@
-use mathlib.Core.Path.{ap, ◌∙◌}
-use Prim.Native.Nat.{ℕ, ◌-◌, ◌*◌}
+use Prim.Native.Nat.{◌-◌, ◌*◌}
 use lib.ListN.{get_or}
-use Rattle.laws.proofs.Entered.{Entered, entered_none, entered_more, entered_all}
-use Rattle.tag.proofs.Front.{front, cut_table, cut_all}
+use Rattle.laws.proofs.Entered.{Entered}
+use Rattle.tag.proofs.Front.{front}
 use Rattle.tag.proofs.kept.Given as goal
 
 abbrev pub invariant-loop-i : goal.invariant-loop-i

@@ -1,8 +1,7 @@
 -- `tag::put` meets its contract. After i turns the first i bytes stand in the slice, and the others are left.
 -- Assumes nothing.
-use Prim.Native.Nat.{◌-◌}
 use native.Mathlib.Omega.{arith}
-use Rattle.laws.proofs.Laid.{Laid, laid_none, laid_length, front_more, front_slice}
+use Rattle.laws.proofs.Laid.{laid_none, laid_length, front_more, front_slice}
 use borrow.Author.Rules.{rules}
 use Rattle.tag.proofs.put.Goals as goal
 

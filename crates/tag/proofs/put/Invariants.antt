@@ -1,6 +1,6 @@
 use Prim.Native.Nat.{◌-◌}
 use lib.ListN.{length}
-use Rattle.laws.proofs.Laid.{Laid, laid_none, laid_length, front_more, front_slice}
+use Rattle.laws.proofs.Laid.{Laid}
 use Rattle.tag.proofs.put.Given as goal
 
 abbrev pub invariant-loop-i : goal.invariant-loop-i

@@ -15,17 +15,14 @@ returns-then-number-ne-DONE c = (
 
 pub put-requires : goal.put-requires
 put-requires c =
-    let at-if = c.before.before.before in
-    let s = suits _ _ (sym at-if.fault-number.ensures ∙ at-if.if-number-ne-DONE.false) in
+    let s = suits _ _ (sym c.fault-number.ensures ∙ c.if-number-ne-DONE.false) in
     search rules
 
 pub returns : goal.returns
 returns c =
-    let at-put = c.before.before in
-    let at-if = at-put.before.before.before.before in
-    let none = sym at-if.fault-number.ensures ∙ at-if.if-number-ne-DONE.false in
+    let none = sym c.fault-number.ensures ∙ c.if-number-ne-DONE.false in
     let s = suits _ _ none in
-    let a = at-if.args in
+    let a = c.args in
     slice_made a.bits a.made a.slice.now none
-    (tag_written a.bits a.made.value _ a.slice.now at-put.put.ensures at-put.kept.ensures
+    (tag_written a.bits a.made.value _ a.slice.now c.put.ensures c.kept.ensures
     s.bits.high s.size (search rules))

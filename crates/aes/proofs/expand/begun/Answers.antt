@@ -1,10 +1,10 @@
 -- `aes::expand::begun` meets its contract. After i turns the first i bytes of the key are copied; 16 - i turns are left.
 -- Assumes nothing.
 use mathlib.Core.Path.{◌≡◌, ◌∙◌, ap}
-use Prim.Native.Nat.{ℕ, ◌-◌}
+use Prim.Native.Nat.{ℕ}
 use native.Mathlib.Omega.{arith}
 use lib.ListN.{length, take}
-use Rattle.laws.proofs.Copied.{Copied, copied_none, copied_more, copied_all}
+use Rattle.laws.proofs.Copied.{copied_none, copied_more, copied_all}
 use borrow.Author.Rules.{rules}
 use Rattle.aes.proofs.expand.begun.Goals as goal
 

@@ -1,7 +1,7 @@
-use mathlib.Core.Path.{◌≡◌, ◌∙◌, ap}
-use Prim.Native.Nat.{ℕ, ◌-◌}
-use lib.ListN.{length, take}
-use Rattle.laws.proofs.Copied.{Copied, copied_none, copied_more, copied_all}
+use mathlib.Core.Path.{◌≡◌}
+use Prim.Native.Nat.{◌-◌}
+use lib.ListN.{length}
+use Rattle.laws.proofs.Copied.{Copied}
 use Rattle.aes.proofs.expand.begun.Given as goal
 
 abbrev pub invariant-loop-i : goal.invariant-loop-i

@@ -1,10 +1,9 @@
 -- `aes::expand::expand` meets its contract. After n turns the key and n words more stand at the front; 40 - n turns are left.
 -- Assumes nothing.
 use mathlib.Core.Path.{◌∙◌, ap}
-use Prim.Native.Nat.{◌≤◌, ◌-◌}
 use native.Mathlib.Omega.{arith}
 use Rattle.aes.specs.Schedule.{schedule}
-use Rattle.aes.proofs.Filled.{Filled, filled_key, filled_more, filled_all}
+use Rattle.aes.proofs.Filled.{filled_key, filled_more, filled_all}
 use borrow.Author.Rules.{rules}
 use Rattle.aes.proofs.expand.expand.Goals as goal
 

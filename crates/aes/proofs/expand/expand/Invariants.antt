@@ -1,7 +1,6 @@
-use mathlib.Core.Path.{◌∙◌, ap}
 use Prim.Native.Nat.{◌≤◌, ◌-◌}
 use lib.ListN.{take}
-use Rattle.aes.proofs.Filled.{Filled, filled_key, filled_more, filled_all}
+use Rattle.aes.proofs.Filled.{Filled}
 use Rattle.aes.proofs.expand.expand.Given as goal
 
 abbrev pub invariant-loop-n : goal.invariant-loop-n

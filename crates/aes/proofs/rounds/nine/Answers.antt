@@ -1,6 +1,5 @@
 -- `aes::rounds::nine` meets its contract. After i turns the state is that of i rounds; 9 - i turns are left.
 -- Assumes nothing.
-use Prim.Native.Nat.{◌≤◌, ◌-◌}
 use mathlib.Core.Path.{◌≡◌, ◌∙◌, ap, ap₂, refl}
 use native.Mathlib.Numerals.{add-one}
 use native.Mathlib.Omega.{arith}

@@ -1,6 +1,6 @@
 use Prim.Native.Nat.{◌≤◌, ◌-◌}
-use mathlib.Core.Path.{◌≡◌, ◌∙◌, ap, ap₂, refl}
-use Rattle.aes.specs.Cipher.{keyed_round, rounds}
+use mathlib.Core.Path.{◌≡◌}
+use Rattle.aes.specs.Cipher.{rounds}
 use Rattle.aes.proofs.rounds.nine.Given as goal
 
 abbrev pub invariant-loop-i : goal.invariant-loop-i

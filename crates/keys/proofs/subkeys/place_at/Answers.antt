@@ -1,8 +1,7 @@
 -- `keys::subkeys::place_at` meets its contract. After j turns the first j bytes are read; 16 - j turns are left.
 -- Assumes nothing.
 use mathlib.Core.Path.{refl}
-use Prim.Native.Nat.{◌+◌, ◌-◌, ◌*◌}
-use Rattle.laws.proofs.Entered.{Entered, entered_none, entered_more, entered_all}
+use Rattle.laws.proofs.Entered.{entered_none, entered_more, entered_all}
 use borrow.Author.Rules.{rules}
 use Rattle.keys.proofs.subkeys.place_at.Goals as goal
 

@@ -1,6 +1,6 @@
 use Prim.Native.Nat.{◌+◌, ◌-◌, ◌*◌}
 use lib.ListN.{get_or}
-use Rattle.laws.proofs.Entered.{Entered, entered_none, entered_more, entered_all}
+use Rattle.laws.proofs.Entered.{Entered}
 use Rattle.keys.proofs.subkeys.place_at.Given as goal
 
 abbrev pub invariant-loop-j : goal.invariant-loop-j

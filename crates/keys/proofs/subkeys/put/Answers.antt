@@ -1,8 +1,7 @@
 -- `keys::subkeys::put` meets its contract. After j turns the first j bytes of the block are stored; 16 - j turns are left.
 -- Assumes nothing.
-use Prim.Native.Nat.{◌-◌}
 use native.Mathlib.Omega.{arith}
-use Rattle.keys.proofs.Laid.{Laying, laying_none, laying_more, laying_all}
+use Rattle.keys.proofs.Laid.{laying_none, laying_more, laying_all}
 use borrow.Author.Rules.{rules}
 use Rattle.keys.proofs.subkeys.put.Goals as goal
 

@@ -1,5 +1,5 @@
 use Prim.Native.Nat.{◌-◌}
-use Rattle.keys.proofs.Laid.{Laying, laying_none, laying_more, laying_all}
+use Rattle.keys.proofs.Laid.{Laying}
 use Rattle.keys.proofs.subkeys.put.Given as goal
 
 abbrev pub invariant-loop-j : goal.invariant-loop-j

@@ -1,8 +1,7 @@
 -- `keys::subkeys::run` meets its contract. After i turns i steps are taken; n - i turns are left.
 -- Assumes nothing.
-use Prim.Native.Nat.{◌-◌}
 use native.Mathlib.Omega.{arith}
-use Rattle.keys.proofs.Ran.{Running, running_none, running_room, running_more, running_all}
+use Rattle.keys.proofs.Ran.{running_none, running_room, running_more, running_all}
 use borrow.Author.Rules.{rules}
 use Rattle.keys.proofs.subkeys.run.Goals as goal
 

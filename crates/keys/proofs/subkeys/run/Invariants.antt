@@ -1,6 +1,6 @@
 use Prim.Native.Nat.{◌-◌}
 use Rattle.aes.specs.Cipher.{cipher}
-use Rattle.keys.proofs.Ran.{Running, running_none, running_room, running_more, running_all}
+use Rattle.keys.proofs.Ran.{Running}
 use Rattle.keys.proofs.subkeys.run.Given as goal
 
 abbrev pub invariant-loop-i : goal.invariant-loop-i
