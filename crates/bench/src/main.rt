@@ -10,7 +10,9 @@
 ghost use Rattle.std.specs.Prelude.{◌<◌};
 
 use keys::KeySet;
-use libc::STDOUT_FILENO;
+
+// The file descriptor of standard output.
+const STDOUT: i32 = 1;
 
 #[derive(Clone, Copy)]
 struct Keys {
@@ -107,15 +109,15 @@ fn main() {
     io::read_full(0, &mut asked);
     if asked[0] == b'S' {
         let tag = streamed(times(asked[2]), times(asked[1]));
-        io::write_all(STDOUT_FILENO, &tag);
+        io::write_all(STDOUT, &tag);
         return;
     }
     if asked[0] == b'T' {
         let tag = tagged(times(asked[2]), times(asked[1]));
-        io::write_all(STDOUT_FILENO, &tag);
+        io::write_all(STDOUT, &tag);
         return;
     }
     let w = aes::expand_key([7u8; 16]);
     let last = chain(asked[0] == b'E', &w, keys_for(&w), times(asked[1]) * 4096);
-    io::write_all(STDOUT_FILENO, &last);
+    io::write_all(STDOUT, &last);
 }

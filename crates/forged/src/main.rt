@@ -10,7 +10,9 @@
 ghost use Rattle.std.specs.Prelude.{◌≤◌};
 
 use keys::KeySet;
-use libc::STDOUT_FILENO;
+
+// The file descriptor of standard output.
+const STDOUT: i32 = 1;
 
 // What is tagged.
 const BODY: [u8; 100] = [5; 100];
@@ -77,5 +79,5 @@ fn main() {
     let answer = answer_of(asked[0], set, spoilt(set, block::read(&asked, 2)));
     let mut text = [b'\n'; 5];
     hex_line::encode(&answer, &mut text);
-    io::write_all(STDOUT_FILENO, &text);
+    io::write_all(STDOUT, &text);
 }

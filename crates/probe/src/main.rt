@@ -12,6 +12,7 @@ mod show;
 mod text;
 
 use question::Question;
+use std::io::Stdin;
 use text::{Reading, at_most};
 
 // The characters of a line, and later its bytes: as many as a question may have, and one that makes it
@@ -60,6 +61,7 @@ fn take_line<'a>(r: Reading, part: &'a [u8], line: &'a mut [u8], first: &'a mut 
 // One turn: more input where none is in hand, otherwise more of the line. At the end a line without its
 // line feed is answered too.
 fn take_turn<'a>(
+    input: Stdin,
     r: Reading,
     part: &'a mut [u8],
     line: &'a mut [u8],
@@ -68,7 +70,7 @@ fn take_turn<'a>(
     if r.from < r.end {
         return take_line(r, part, line, first);
     }
-    let n = text::refilled(part);
+    let n = text::refilled(input, part);
     if n > 0 {
         return text::begun(r.count, 0, n);
     }
@@ -80,11 +82,11 @@ fn take_turn<'a>(
 }
 
 // A proved loop has to end, and nothing says that the input does: it has as many turns as no run uses up.
-fn run<'a>(part: &'a mut [u8], line: &'a mut [u8], first: &'a mut [u8]) {
+fn run<'a>(input: Stdin, part: &'a mut [u8], line: &'a mut [u8], first: &'a mut [u8]) {
     let mut r = text::begun(0, 0, 0);
     let mut turns = u64::MAX;
     while turns > 0 {
-        let next = take_turn(r, part, line, first);
+        let next = take_turn(input, r, part, line, first);
         if next.is_over {
             return;
         }
@@ -93,9 +95,9 @@ fn run<'a>(part: &'a mut [u8], line: &'a mut [u8], first: &'a mut [u8]) {
     }
 }
 
-fn main() {
+fn main(rt: HostRuntime) {
     let mut part = io::large_buffer();
     let mut line = line_space();
     let mut first = first_space();
-    run(&mut part, &mut line, &mut first);
+    run(rt.stdin(), &mut part, &mut line, &mut first);
 }

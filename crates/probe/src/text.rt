@@ -2,7 +2,10 @@
 // characters of an answer.
 ghost use Rattle.std.specs.Prelude.{◌<◌, ◌≤◌};
 
-use libc::{STDIN_FILENO, STDOUT_FILENO};
+use std::io::{Read, Stdin};
+
+// The file descriptor of standard output.
+const STDOUT: i32 = 1;
 
 const LINE_FEED: u8 = 10;
 
@@ -53,9 +56,11 @@ pub(crate) fn at_most(n: usize, most: usize) -> usize
 }
 
 // More of the input: how many bytes, none where it has ended. A failed read counts as the end.
-pub(crate) fn refilled(part: &mut [u8]) -> usize {
-    let got = libc::read(STDIN_FILENO, part);
-    io::count(got, part)
+pub(crate) fn refilled(mut input: Stdin, part: &mut [u8]) -> usize {
+    match input.read(part) {
+        Ok(n) => n,
+        Err(_) => 0,
+    }
 }
 
 // A character at a place, where there is room for it: the place behind it.
@@ -133,7 +138,7 @@ pub(crate) fn decoded(line: &mut [u8], count: usize) -> usize {
 
 // What a line that is no question is answered by.
 fn write_unknown() {
-    io::write_all(STDOUT_FILENO, &[b'?', LINE_FEED]);
+    io::write_all(STDOUT, &[b'?', LINE_FEED]);
 }
 
 // The first n characters of an answer, and a line feed. There are none where there was no question.
@@ -144,5 +149,5 @@ pub(crate) fn write_line(out: &mut [u8], n: usize) {
     }
     let end = put(out, n, LINE_FEED);
     let most = at_most(end, out.len());
-    io::write_all(STDOUT_FILENO, &out[..most]);
+    io::write_all(STDOUT, &out[..most]);
 }

@@ -14,8 +14,10 @@ mod text;
 
 ghost use Rattle.std.specs.Prelude.{◌<◌};
 
-use libc::STDIN_FILENO;
 use text::Line;
+
+// The file descriptor of standard input.
+const STDIN: i32 = 0;
 
 // What is kept from line to line: whether there may be more, and the schedule of the last key.
 #[derive(Clone, Copy)]
@@ -89,7 +91,7 @@ fn answered(line: Line, w: [u8; 176]) -> [u8; 176] {
 // Reads one line and answers it.
 fn take_turn(w: [u8; 176]) -> Turn {
     let mut text = [0u8; 34];
-    let n = io::read_full(STDIN_FILENO, &mut text);
+    let n = io::read_full(STDIN, &mut text);
     if n < 34 {
         return Turn { more: false, w };
     }

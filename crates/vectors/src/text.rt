@@ -1,7 +1,8 @@
 // Lines of hexadecimal digits in and out.
 ghost use Rattle.std.specs.Prelude.{◌<◌};
 
-use libc::STDOUT_FILENO;
+// The file descriptor of standard output.
+const STDOUT: i32 = 1;
 
 const LINE_FEED: u8 = 10;
 
@@ -104,7 +105,7 @@ pub(crate) fn write_words(w: &[u8; 176]) {
     let mut i: usize = 0;
     while i < 44 {
         let text = word(w, i);
-        io::write_all(STDOUT_FILENO, &text);
+        io::write_all(STDOUT, &text);
         i += 1;
     }
 }
@@ -112,10 +113,10 @@ pub(crate) fn write_words(w: &[u8; 176]) {
 // A block, on a line.
 pub(crate) fn write_block(block: [u8; 16]) {
     let text = written(block);
-    io::write_all(STDOUT_FILENO, &text);
+    io::write_all(STDOUT, &text);
 }
 
 // What a line that is no question is answered by.
 pub(crate) fn write_unknown() {
-    io::write_all(STDOUT_FILENO, &[b'?', LINE_FEED]);
+    io::write_all(STDOUT, &[b'?', LINE_FEED]);
 }
