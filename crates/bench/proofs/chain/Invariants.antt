@@ -1,6 +1,6 @@
 -- `bench::chain` meets its contract. It is safe and ends: one block fewer is left at each turn.
 -- Assumes nothing.
-use Prim.Native.Nat.{◌≤◌, ◌-◌}
+use Rattle.std.proofs.Common.{◌≤◌, ◌-◌}
 use Rattle.bench.proofs.chain.Given as goal
 
 abbrev pub invariant-loop-n : goal.invariant-loop-n

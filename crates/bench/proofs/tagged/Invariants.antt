@@ -1,8 +1,6 @@
 -- `bench::tagged` meets its contract. It is safe and ends: one tag fewer is left at each turn.
 -- Assumes nothing.
-use mathlib.Core.Path.{◌≡◌}
-use Prim.Native.Nat.{◌≤◌, ◌-◌}
-use lib.ListN.{length}
+use Rattle.std.proofs.Common.{◌≡◌, ◌≤◌, ◌-◌, length}
 use Rattle.bench.proofs.tagged.Given as goal
 
 abbrev pub invariant-loop-n : goal.invariant-loop-n

@@ -1,8 +1,6 @@
 -- `forged::answer_of` meets its contract. It is safe: a tag has at most sixteen bytes, and a frame a hundred more.
 -- Assumes nothing.
-use mathlib.Core.Path.{sym}
-use lib.Seq.{length-take-le}
-use borrow.Author.Rules.{rules}
+use Rattle.std.proofs.Common.{sym, length-take-le, rules}
 use Rattle.forged.proofs.answer_of.Goals as goal
 
 pub slice-aggregate-verify-2 : goal.slice-aggregate-verify-2

@@ -1,8 +1,6 @@
 -- `forged::frame_of` meets its contract. It is safe and ends: one byte fewer is left at each turn.
 -- Assumes nothing.
-use mathlib.Core.Path.{◌≡◌}
-use Prim.Native.Nat.{◌≤◌, ◌-◌}
-use lib.ListN.{length}
+use Rattle.std.proofs.Common.{◌≡◌, ◌≤◌, ◌-◌, length}
 use Rattle.forged.proofs.frame_of.Given as goal
 
 abbrev pub invariant-loop-i : goal.invariant-loop-i

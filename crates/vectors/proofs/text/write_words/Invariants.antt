@@ -1,6 +1,6 @@
 -- `vectors::text::write_words` meets its contract. It is safe and ends: one word fewer is left at each turn.
 -- Assumes nothing.
-use Prim.Native.Nat.{◌≤◌, ◌-◌}
+use Rattle.std.proofs.Common.{◌≤◌, ◌-◌}
 use Rattle.vectors.proofs.text.write_words.Given as goal
 
 abbrev pub invariant-loop-i : goal.invariant-loop-i

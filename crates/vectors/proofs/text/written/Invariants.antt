@@ -1,6 +1,6 @@
 -- `vectors::text::written` meets its contract. It is safe and ends: one byte fewer is left at each turn.
 -- Assumes nothing.
-use Prim.Native.Nat.{◌≤◌, ◌-◌}
+use Rattle.std.proofs.Common.{◌≤◌, ◌-◌}
 use Rattle.vectors.proofs.text.written.Given as goal
 
 abbrev pub invariant-loop-i : goal.invariant-loop-i
