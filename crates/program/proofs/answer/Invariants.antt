@@ -1,7 +1,7 @@
-use mathlib.Core.Path.{◌≡◌, sym, ◌∙◌}
-use Prim.Native.Nat.{suc, ◌+◌, ◌-◌, ◌≤◌}
+use mathlib.Core.Path.{◌≡◌}
+use Prim.Native.Nat.{◌-◌}
 use lib.ListN.{length}
-use Rattle.program.proofs.Answering.{Answering, answering_none, answering_more, answering_all}
+use Rattle.program.proofs.Answering.{Answering}
 use Rattle.program.proofs.answer.Given as goal
 
 abbrev pub invariant-loop-at : goal.invariant-loop-at

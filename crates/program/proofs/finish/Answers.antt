@@ -17,20 +17,15 @@ slice_bounds-write_all-end c =
 pub slice_bounds-write_all-end-2 : goal.slice_bounds-write_all-end-2
 slice_bounds-write_all-end-2 c =
     let a = c.args in
-    sym
-    (length-take-le _ _
-    (written_within a.s (closing (reader_of a.s)) a.space.now c.finish-a.ensures))
+    sym (length-take-le _ _ (written_within a.s (closing (reader_of a.s)) a.space.now c.finish-a.ensures))
 
 pub returns-then-not-write_all : goal.returns-then-not-write_all
 returns-then-not-write_all c =
-    let at-finish = c.before.before.before.before.before in
-    let a = at-finish.args in
-    (inr (unwritten_told a.s), ended_space_is a.s a.space.now at-finish.finish-a.ensures)
+    let a = c.args in
+    (inr (unwritten_told a.s), ended_space_is a.s a.space.now c.finish-a.ensures)
 
 pub returns : goal.returns
 returns c =
-    let at-finish = c.before.before.before.before.before.before in
-    let at-reason = at-finish.before.before in
-    let a = at-reason.args in
-    let p = at-finish.finish-a.ensures in
-    (inl (ended_told a.s a.space.now p at-reason.end_reason-reason.ensures), ended_space_is a.s a.space.now p)
+    let a = c.args in
+    let p = c.finish-a.ensures in
+    (inl (ended_told a.s a.space.now p c.end_reason-reason.ensures), ended_space_is a.s a.space.now p)

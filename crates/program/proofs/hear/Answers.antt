@@ -4,7 +4,6 @@ use mathlib.Core.Path.{◌≡◌, ap, ◌∙◌}
 use lib.IntN.{ℤ}
 use lib.ListN.{length}
 use mir.Syntax.{w64}
-use mir.Val.{to_z, of_z}
 use mir.ValLaws.{to_z-of_z}
 use Rattle.io.specs.Counts.{clamp_len}
 use Rattle.program.specs.Reason.{negative}
@@ -13,37 +12,31 @@ use Rattle.program.proofs.hear.Goals as goal
 use Rattle.program.proofs.hear.Goals.{Start, After-failed, After-count-n}
 
 -- a signed number is handed on by its bits
-bits : (c : Start) → to_z w64 (of_z w64 c.args.got) ≡ c.args.got
-bits c = to_z-of_z w64 c.args.got c.ranges.got
-
 failed_told : (c : After-failed) → c.failed.result ≡ negative c.args.got
-failed_told c = c.failed.ensures ∙ ap negative (bits c.before.before.before)
+failed_told c = c.failed.ensures ∙ ap negative (to_z-of_z w64 c.args.got c.ranges.got)
 
-count_told : (c : After-count-n)
-    → c.count-n.result
-    ≡ clamp_len c.args.got
-    (length c.args.input.now)
+count_told : (c : After-count-n) → c.count-n.result ≡ clamp_len c.args.got (length c.args.input.now)
 count_told c =
-    let a = c.before.before.before.before.before in
-    c.count-n.ensures.1 ∙ ap (λ (z : ℤ). clamp_len z (length a.args.input.now)) (bits a)
+    c.count-n.ensures.value ∙ ap (λ (z : ℤ). clamp_len z (length c.args.input.now)) (to_z-of_z w64 c.args.got c.ranges.got)
 
 pub returns-then-interrupted : goal.returns-then-interrupted
-returns-then-interrupted c = hears_failed _ _ _ _ _ (failed_told (goal.at.returns-then-interrupted c).After-failed) c.if-failed.true (unread_again _ _ c.if-interrupted.true)
+returns-then-interrupted c =
+    let told = failed_told (goal.at.returns-then-interrupted c).After-failed in
+    hears_failed _ _ _ _ _ told c.if-failed.true (unread_again _ _ c.if-interrupted.true)
 
 pub returns-then-failed : goal.returns-then-failed
-returns-then-failed c = hears_failed _ _ _ _ _ (failed_told (goal.at.returns-then-failed c).After-failed) c.if-failed.true (unread_failed _ _ c.if-interrupted.false)
+returns-then-failed c =
+    let told = failed_told (goal.at.returns-then-failed c).After-failed in
+    hears_failed _ _ _ _ _ told c.if-failed.true (unread_failed _ _ c.if-interrupted.false)
 
 pub returns-then-n-eq0 : goal.returns-then-n-eq0
 returns-then-n-eq0 c =
-    let at-finish = c.before.before in
-    let at_count = at-finish.before.before.before in
-    let at-failed = at_count.before.before in
-    hears_end _ _ _ _ _ (failed_told (goal.at.returns-then-n-eq0 c).After-failed) at_count.if-failed.false (count_told (goal.at.returns-then-n-eq0 c).After-count-n)
-    at-finish.if-n-eq0.true at-finish.finish.ensures
+    let told = failed_told (goal.at.returns-then-n-eq0 c).After-failed in
+    let count = count_told (goal.at.returns-then-n-eq0 c).After-count-n in
+    hears_end _ _ _ _ _ told c.if-failed.false count c.if-n-eq0.true c.finish.ensures
 
 pub returns : goal.returns
 returns c =
-    let at_count = c.before.before.before in
-    let at-failed = at_count.before.before in
-    hears_part _ _ _ _ _ (failed_told (goal.at.returns c).After-failed) at_count.if-failed.false (count_told (goal.at.returns c).After-count-n)
-    c.if-n-eq0.false c.answer.ensures
+    let told = failed_told (goal.at.returns c).After-failed in
+    let count = count_told (goal.at.returns c).After-count-n in
+    hears_part _ _ _ _ _ told c.if-failed.false count c.if-n-eq0.false c.answer.ensures

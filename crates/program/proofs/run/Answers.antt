@@ -1,4 +1,4 @@
--- `program::turns` meets its contract. Turn by turn; one read fewer is left each time.
+-- `program::run` meets its contract. Turn by turn; one read fewer is left each time.
 -- Assumes nothing.
 use mathlib.Core.Path.{◌≡◌}
 use Prim.Native.Nat.{◌≤◌, ◌<◌}
@@ -8,8 +8,8 @@ use Rattle.session.specs.Session.{width}
 use Rattle.session.proofs.Telling.{width_most}
 use Rattle.program.proofs.Running.{runs_more, runs_stop, runs_none}
 use borrow.Author.Rules.{rules}
-use Rattle.program.proofs.turns.Goals as goal
-use Rattle.program.proofs.turns.Goals.{At-loop-left}
+use Rattle.program.proofs.run.Goals as goal
+use Rattle.program.proofs.run.Goals.{At-loop-left}
 
 -- the space has room for a last text
 room : (c : At-loop-left) → width c.loop-left.s.kind ≤ length c.loop-left.space
@@ -20,30 +20,26 @@ loop-left-init c = (c.large_buffer-input.ensures, c.buffer-space.ensures, λ r q
 
 pub returns-then-reason-ne-GOES_ON : goal.returns-then-reason-ne-GOES_ON
 returns-then-reason-ne-GOES_ON c =
-    let at-hear = c.before.before.before in
-    let at_test = at-hear.before.before.before.before.before.before.before in
-    let l = at_test.loop-left in
-    let at-begin = at_test.before.before in
-    let some : 0 < l.left = omega (arith, at_test.loop-left-test.true) in (
-      at-begin.begin-s.result,
-      at-begin.begin-s.ensures,
-      l.invariant.2 _ (runs_stop _ _ _ _ _ (room (goal.at.returns-then-reason-ne-GOES_ON c).At-loop-left) at-hear.hear-h.ensures l.left some c.if-reason-ne-GOES_ON.true),
+    let l = c.loop-left in
+    let k = room (goal.at.returns-then-reason-ne-GOES_ON c).At-loop-left in
+    let some : 0 < l.left = omega (arith, c.loop-left-test.true) in (
+      c.begin-s.result,
+      c.begin-s.ensures,
+      l.invariant.2 _ (runs_stop _ _ _ _ _ k c.hear-h.ensures l.left some c.if-reason-ne-GOES_ON.true),
     )
 
 pub loop-left-preserved : goal.loop-left-preserved
 loop-left-preserved c =
-    let at-hear = c.before.before.before in
-    let at_test = at-hear.before.before.before.before.before.before.before in
-    let l = at_test.loop-left in
-    let some : 0 < l.left = omega (arith, at_test.loop-left-test.true) in (
+    let l = c.loop-left in
+    let k = room (goal.at.loop-left-preserved c).At-loop-left in
+    let some : 0 < l.left = omega (arith, c.loop-left-test.true) in (
       search rules,
       search rules,
-      λ r q. l.invariant.2 r (runs_more _ _ _ _ _ (room (goal.at.loop-left-preserved c).At-loop-left) at-hear.hear-h.ensures l.left r some c.if-reason-ne-GOES_ON.false q),
+      λ r q. l.invariant.2 r (runs_more _ _ _ _ _ k c.hear-h.ensures l.left r some c.if-reason-ne-GOES_ON.false q),
     )
 
 pub returns : goal.returns
 returns c =
     let l = c.loop-left in
-    let at-begin = c.before.before in
     let none : l.left ≡ 0 = omega (arith, c.loop-left-test.false) in
-    (at-begin.begin-s.result, at-begin.begin-s.ensures, l.invariant.2 _ (runs_none l.left l.s none))
+    (c.begin-s.result, c.begin-s.ensures, l.invariant.2 _ (runs_none l.left l.s none))

@@ -1,9 +1,8 @@
 use mathlib.Core.Path.{◌≡◌}
-use Prim.Native.Nat.{◌≤◌, ◌<◌}
 use lib.ListN.{length}
 use Rattle.program.specs.declared.Ran.{Ran}
 use Rattle.program.specs.Run.{Runs}
-use Rattle.program.proofs.turns.Given as goal
+use Rattle.program.proofs.run.Given as goal
 
 -- whatever the loop may hand back from here, it may from the start
 abbrev pub invariant-loop-left : goal.invariant-loop-left
