@@ -1,6 +1,6 @@
 -- `probe::run` meets its contract. It is safe and ends: one turn fewer is left each time.
 -- Assumes nothing.
-use Rattle.std.proofs.Common.{◌≡◌, length, rules}
+use Rattle.std.proofs.Common.{◌≡◌, length}
 use Rattle.probe.proofs.run.Given as goal
 
 abbrev pub invariant-loop-turns : goal.invariant-loop-turns

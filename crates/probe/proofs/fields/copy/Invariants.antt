@@ -1,6 +1,6 @@
 -- `probe::fields::copy` meets its contract. It is safe and ends: n - i bytes are left.
 -- Assumes nothing.
-use Rattle.std.proofs.Common.{◌≡◌, ◌-◌, ◌≤◌, length, rules}
+use Rattle.std.proofs.Common.{◌≡◌, ◌-◌, ◌≤◌, length}
 use Rattle.probe.proofs.fields.copy.Given as goal
 
 abbrev pub invariant-loop-i : goal.invariant-loop-i

@@ -1,6 +1,6 @@
 -- `probe::show::bytes` meets its contract. It is safe and ends: one byte fewer is left at each turn.
 -- Assumes nothing.
-use Rattle.std.proofs.Common.{◌≡◌, ◌-◌, ◌≤◌, length, rules}
+use Rattle.std.proofs.Common.{◌≡◌, ◌-◌, ◌≤◌, length}
 use Rattle.probe.proofs.show.bytes.Given as goal
 
 abbrev pub invariant-loop-i : goal.invariant-loop-i

@@ -1,6 +1,6 @@
 -- `probe::show::eight` meets its contract. It is safe and ends: i bytes are left.
 -- Assumes nothing.
-use Rattle.std.proofs.Common.{◌≡◌, ◌≤◌, length, rules}
+use Rattle.std.proofs.Common.{◌≡◌, ◌≤◌, length}
 use Rattle.probe.proofs.show.eight.Given as goal
 
 abbrev pub invariant-loop-i : goal.invariant-loop-i

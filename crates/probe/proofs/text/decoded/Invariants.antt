@@ -1,6 +1,6 @@
 -- `probe::text::decoded` meets its contract. It is safe and ends: n - i pairs are left, and the line has two characters for each.
 -- Assumes nothing.
-use Rattle.std.proofs.Common.{◌≡◌, ◌-◌, ◌*◌, ◌≤◌, length, rules}
+use Rattle.std.proofs.Common.{◌≡◌, ◌-◌, ◌*◌, ◌≤◌, length}
 use Rattle.probe.proofs.text.decoded.Given as goal
 
 abbrev pub invariant-loop-i : goal.invariant-loop-i

@@ -1,6 +1,6 @@
 -- `probe::text::read_on` meets its contract. It is safe and ends: end - i characters are left in hand.
 -- Assumes nothing.
-use Rattle.std.proofs.Common.{◌≡◌, ◌-◌, ◌≤◌, length, rules}
+use Rattle.std.proofs.Common.{◌≡◌, ◌-◌, ◌≤◌, length}
 use Rattle.probe.proofs.text.read_on.Given as goal
 
 abbrev pub invariant-loop-i : goal.invariant-loop-i
