@@ -87,7 +87,8 @@ def turn(path, to):
             return name
         before = text[max(0, m.start() - 200):m.start()]
         # a step of the code: c.place-after, c.before.place-after
-        if generated and re.search(r"(?:^|[\s(,])(?:c|h|v|w|a)(?:\.[\w'-]+)*\.$", before) and not re.search(r"invariant(?:\.[\w'-]+)*\.$", before):
+        step = re.search(r"(?:^|[\s(,])(?:c|h|v|w|a)(?:\.[\w'-]+)*\.$", before)
+        if generated and step and not re.search(r"invariant(?:\.[\w'-]+)*\.$", before):
             return name
         return new
 

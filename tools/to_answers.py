@@ -114,7 +114,8 @@ def convert(path, record, where):
         if re.match(r"(pub )?use ", body):
             if not head:
                 head = comments
-            uses += [u for u in re.split(r"\n(?=(?:pub )?use )", body) if not re.search(r"\.(Statement|Tie)(\.\{statement\}| as tie)\s*$", u)]
+            gone = re.compile(r"\.(Statement|Tie)(\.\{statement\}| as tie)\s*$")
+            uses += [u for u in re.split(r"\n(?=(?:pub )?use )", body) if not gone.search(u)]
             continue
         if re.match(r"pub " + IDENT + r" :.*statement M", body):
             continue
@@ -139,7 +140,9 @@ def convert(path, record, where):
                 to[p] = f"l.{n}"
             to.pop("_", None)
             rest = re.sub(r"(?<![\w'.₀-₉-])(" + IDENT + r")", lambda t: to.get(t.group(1), t.group(1)), rest)
-            invariants.append("\n".join(comments + [f"abbrev pub {kind}-{new} : goal.{kind}-{new}", *([m2.group(1).strip()] if m2.group(1) else []), f"{kind}-{new} l = {rest}"]))
+            opened = [m2.group(1).strip()] if m2.group(1) else []
+            said_of = [f"abbrev pub {kind}-{new} : goal.{kind}-{new}", *opened, f"{kind}-{new} l = {rest}"]
+            invariants.append("\n".join(comments + said_of))
             continue
         m = re.match(r"(?:pub )?(" + IDENT + r") : tie\.Need-(" + IDENT + r")((?:\s+(?:invariant|decreases)[\w-]*)*)", body)
         if m:
@@ -156,7 +159,8 @@ def convert(path, record, where):
             if new is None:
                 said.append(f"no goal {old}: {[n for n in needs if n.split('-')[-1] == norm(old).split('-')[-1]]}")
                 new = norm(old)
-            rest = re.sub(r"(?m)^" + re.escape(name) + r"((?:\s+[^\s=(){}]+)*)(?=\s*=)", lambda t: new + re.sub(r"\s+κs", "", t.group(1)), rest)
+            clause = r"(?m)^" + re.escape(name) + r"((?:\s+[^\s=(){}]+)*)(?=\s*=)"
+            rest = re.sub(clause, lambda t: new + re.sub(r"\s+κs", "", t.group(1)), rest)
             rest = turn_paths(rest, steps, said)
             if "κs" in rest:
                 said.append(f"{old}: κs")
@@ -180,7 +184,8 @@ def convert(path, record, where):
         m = re.search(r"\.\{([^}]*)\}", u)
         if not m:
             return True
-        return any(re.search(r"(?<![\w'-])" + re.escape(n.strip().replace("◌", "")) + r"(?![\w'-])", texts) or "◌" in n for n in m.group(1).split(","))
+        cited = lambda n: re.search(r"(?<![\w'-])" + re.escape(n) + r"(?![\w'-])", texts)
+        return any("◌" in n or cited(n.strip()) for n in m.group(1).split(","))
 
     def write(name, module, items, needs_head):
         file = os.path.join(folder, name)

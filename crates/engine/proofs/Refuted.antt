@@ -27,8 +27,8 @@ second_u = replicate 80 0 ++ (1 ∷ replicate 223 0)
 
 -- step does not take G under U_2 at place 1: of zeros, 76 and not D7
 pub second_u_for_the_first : (round : List ℕ) (r : Block) → get_or r 0 0 ≡ 0xd7 → StepPromise round second_u 1 zeros zeros r → ⊥
-unfolding chain_step step u_part ◌⊕◌ four_rounds unkeyed_round keyed_round mix sub_byte affine affine_digits affine_digit digit inverse pow_digits
-    mul_digits xtime
+unfolding chain_step step u_part ◌⊕◌ four_rounds unkeyed_round keyed_round mix sub_byte affine affine_digits affine_digit digit inverse
+    pow_digits mul_digits xtime
 second_u_for_the_first round r h p = let z : get_or r 0 0 ≡ 0x76 = ap (λ (b : Block). get_or b 0 0) p in omega arith
 
 -- absorbing one block more

@@ -36,7 +36,8 @@ size_fault_once p n r r' a b = once a b
 -- value; or 2, there is no tag of p bits, or 3, the slice is not of its size, no counts, and the slice holds what it held
 abbrev pub WritePromise : Chain → ℕ → List ℕ → TagAnswer → List ℕ → Type 0
 WritePromise c p slice r after =
-    (r ≡ making_answer (tag_number p (length slice)) (tagged_by p c)) × (after ≡ making_slice (tag_number p (length slice)) (tagged_by p c) slice)
+    (r ≡ making_answer (tag_number p (length slice)) (tagged_by p c))
+    × (after ≡ making_slice (tag_number p (length slice)) (tagged_by p c) slice)
 
 -- any two outcomes that write may have are equal, the answer and the slice
 pub write_once : (c : Chain) (p : ℕ) (slice : List ℕ) (r r' : TagAnswer) (after after' : List ℕ) → WritePromise c p slice r after

@@ -28,11 +28,11 @@ slice_bounds-verify-end c = sym (length-take-le _ _ (search rules))
 pub returns-then-v-eq-DONE : goal.returns-then-v-eq-DONE
 returns-then-v-eq-DONE c =
     let a = c.args in
-    answer_made a.keys a.frame.now true (none (goal.at.returns-then-v-eq-DONE c).Else-number-ne-DONE) c.size.ensures (eq-eqb _ _ c.if-v-eq-DONE.true)
-    c.verify-v.ensures
+    answer_made a.keys a.frame.now true (none (goal.at.returns-then-v-eq-DONE c).Else-number-ne-DONE) c.size.ensures
+    (eq-eqb _ _ c.if-v-eq-DONE.true) c.verify-v.ensures
 
 pub returns-else-v-eq-DONE : goal.returns-else-v-eq-DONE
 returns-else-v-eq-DONE c =
     let a = c.args in
-    answer_made a.keys a.frame.now false (none (goal.at.returns-else-v-eq-DONE c).Else-number-ne-DONE) c.size.ensures (ne_eqb _ _ c.if-v-eq-DONE.false)
-    c.verify-v.ensures
+    answer_made a.keys a.frame.now false (none (goal.at.returns-else-v-eq-DONE c).Else-number-ne-DONE) c.size.ensures
+    (ne_eqb _ _ c.if-v-eq-DONE.false) c.verify-v.ensures

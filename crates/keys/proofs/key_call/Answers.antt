@@ -26,10 +26,14 @@ returns-then-number-ne-DONE c =
     c.refused.ensures ∙ ap refused_keys n.ensures ∙ answer_refused a.order a.bits a.k.now a.l.now h
 
 pub overflow_cast-order : goal.overflow_cast-order
-overflow_cast-order c = record { fits = omega (arith, (number_faultless _ _ _ _ (no_number (goal.at.overflow_cast-order c).Else-number-ne-DONE)).order_fits) }
+overflow_cast-order c =
+    let none = no_number (goal.at.overflow_cast-order c).Else-number-ne-DONE in
+    record { fits = omega (arith, (number_faultless _ _ _ _ none).order_fits) }
 
 pub overflow_cast-bits : goal.overflow_cast-bits
-overflow_cast-bits c = record { fits = omega (arith, (number_faultless _ _ _ _ (no_number (goal.at.overflow_cast-bits c).Else-number-ne-DONE)).tag_fits) }
+overflow_cast-bits c =
+    let none = no_number (goal.at.overflow_cast-bits c).Else-number-ne-DONE in
+    record { fits = omega (arith, (number_faultless _ _ _ _ none).tag_fits) }
 
 pub done-requires : goal.done-requires
 done-requires c =
