@@ -58,7 +58,9 @@ pub fn tag<'a>(keys: KeySet, message: &'a [u8], slice: &'a mut [u8]) -> TagAnswe
     tag::write(sealed(keys, message), keys.bits, slice)
 }
 
-// The verdict on a received tag for a message.
+// The verdict on a received tag for a message. Out of line, so that what a caller makes of the number does not go
+// back into the comparison: then a wrong tag takes as many instructions as the right one (bench/same).
+#[inline(never)]
 pub fn verify<'a>(keys: KeySet, message: &'a [u8], received: &'a [u8]) -> TagAnswer
     ensures { VerifyPromise keys message.now received.now result }
 {
