@@ -1,8 +1,9 @@
-// The key expansion of FIPS 197, section 5.2, over a lent table of the substitution.
+// The key expansion of FIPS 197, section 5.2, over a lent substitution.
 ghost use Rattle.std.specs.Prelude.{◌≡◌, ◌+◌, ◌<◌, ◌≤◌, length, take, drop, ◌++◌};
 ghost use Rattle.laws.specs.Agree.{table};
-ghost use Rattle.field.specs.Sbox.{sbox_table};
 ghost use Rattle.aes.specs.Schedule.{word_at, rot_word, x_power, rcon, temp, next_word, schedule};
+
+use crate::substitution::Substitution;
 
 // x^0 to x^9, the first bytes of Rcon[1] to Rcon[10].
 fn powers() -> [u8; 10]
@@ -49,26 +50,23 @@ fn put_word(w: &mut [u8; 176], o: usize, t: [u8; 4])
 }
 
 // What is added to w[i-4] to get w[i], where t is w[i-1].
-fn temp(sbox: &[u8; 256], i: usize, t: [u8; 4]) -> [u8; 4]
-    requires { (sbox.now ≡ sbox_table) × (4 ≤ i) × (i < 44) }
+fn temp(sub: &Substitution, i: usize, t: [u8; 4]) -> [u8; 4]
+    requires { (4 ≤ i) × (i < 44) }
     ensures { result ≡ temp i t }
 {
     if i % 4 == 0 {
-        state::xor_word(
-            crate::rounds::sub_word(sbox, rot_word(t)),
-            round_constant(i / 4),
-        )
+        state::xor_word(sub.word(rot_word(t)), round_constant(i / 4))
     } else {
         t
     }
 }
 
 // w[i], from the words before it.
-fn next_word<'a>(sbox: &'a [u8; 256], w: &'a [u8; 176], i: usize) -> [u8; 4]
-    requires { (sbox.now ≡ sbox_table) × (4 ≤ i) × (i < 44) }
+fn next_word<'a>(sub: &'a Substitution, w: &'a [u8; 176], i: usize) -> [u8; 4]
+    requires { (4 ≤ i) × (i < 44) }
     ensures { result ≡ next_word w.now i }
 {
-    state::xor_word(word_at(w, i - 4), temp(sbox, i, word_at(w, i - 1)))
+    state::xor_word(word_at(w, i - 4), temp(sub, i, word_at(w, i - 1)))
 }
 
 // Room for a schedule, with the key at its front.
@@ -85,14 +83,13 @@ fn begun(key: [u8; 16]) -> [u8; 176]
 }
 
 // KeyExpansion: the key, and forty words one after the other.
-pub(crate) fn expand(sbox: &[u8; 256], key: [u8; 16]) -> [u8; 176]
-    requires { sbox.now ≡ sbox_table }
+pub(crate) fn expand(sub: &Substitution, key: [u8; 16]) -> [u8; 176]
     ensures { result ≡ schedule key }
 {
     let mut w = begun(key);
     let mut n: usize = 0;
     while n < 40 {
-        let t = next_word(sbox, &w, n + 4);
+        let t = next_word(sub, &w, n + 4);
         put_word(&mut w, 4 * n + 16, t);
         n += 1;
     }

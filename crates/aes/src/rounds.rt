@@ -1,44 +1,10 @@
-// The rounds of FIPS 197, section 5.1, over a lent table of the substitution.
+// The rounds of FIPS 197, section 5.1, over a lent substitution.
 ghost use Rattle.std.specs.Prelude.{◌≡◌, ◌+◌, ◌*◌, ◌<◌, get_or};
-ghost use Rattle.field.specs.Sbox.{sub_byte, sbox_table};
-ghost use Rattle.state.specs.State.{word, sub_bytes};
+ghost use Rattle.state.specs.State.{word};
 ghost use Rattle.aes.specs.Cipher.{round_key, unkeyed_round, keyed_round, last_round, rounds, cipher};
 ghost use Rattle.aes.specs.FourRounds.{four_rounds};
-ghost use Rattle.aes.specs.Schedule.{sub_word};
 
-// S of a byte, looked up.
-fn sub_byte(sbox: &[u8; 256], x: u8) -> u8
-    requires { sbox.now ≡ sbox_table }
-    ensures { result ≡ sub_byte x }
-{
-    sbox[x as usize]
-}
-
-// SubWord, and SubBytes of a row.
-pub(crate) fn sub_word(sbox: &[u8; 256], t: [u8; 4]) -> [u8; 4]
-    requires { sbox.now ≡ sbox_table }
-    ensures { result ≡ sub_word t }
-{
-    [
-        sub_byte(sbox, t[0]),
-        sub_byte(sbox, t[1]),
-        sub_byte(sbox, t[2]),
-        sub_byte(sbox, t[3]),
-    ]
-}
-
-// SubBytes.
-fn sub_bytes(sbox: &[u8; 256], s: [[u8; 4]; 4]) -> [[u8; 4]; 4]
-    requires { sbox.now ≡ sbox_table }
-    ensures { result ≡ sub_bytes s }
-{
-    [
-        sub_word(sbox, s[0]),
-        sub_word(sbox, s[1]),
-        sub_word(sbox, s[2]),
-        sub_word(sbox, s[3]),
-    ]
-}
+use crate::substitution::Substitution;
 
 // Row r of round key i of a schedule. `o + (r + 0)` is the definition's own index.
 fn key_row(w: &[u8; 176], i: usize, r: usize) -> [u8; 4]
@@ -68,67 +34,61 @@ fn round_key(w: &[u8; 176], i: usize) -> [[u8; 4]; 4]
 }
 
 // What a round does before its key is added.
-fn unkeyed(sbox: &[u8; 256], s: [[u8; 4]; 4]) -> [[u8; 4]; 4]
-    requires { sbox.now ≡ sbox_table }
+fn unkeyed(sub: &Substitution, s: [[u8; 4]; 4]) -> [[u8; 4]; 4]
     ensures { result ≡ unkeyed_round s }
 {
-    state::mix_columns(state::shift_rows(sub_bytes(sbox, s)))
+    state::mix_columns(state::shift_rows(sub.state(s)))
 }
 
 // A round.
-fn keyed(sbox: &[u8; 256], s: [[u8; 4]; 4], k: [[u8; 4]; 4]) -> [[u8; 4]; 4]
-    requires { sbox.now ≡ sbox_table }
+fn keyed(sub: &Substitution, s: [[u8; 4]; 4], k: [[u8; 4]; 4]) -> [[u8; 4]; 4]
     ensures { result ≡ keyed_round s k }
 {
-    state::add_round_key(unkeyed(sbox, s), k)
+    state::add_round_key(unkeyed(sub, s), k)
 }
 
 // The last round has no MixColumns.
-fn last(sbox: &[u8; 256], s: [[u8; 4]; 4], k: [[u8; 4]; 4]) -> [[u8; 4]; 4]
-    requires { sbox.now ≡ sbox_table }
+fn last(sub: &Substitution, s: [[u8; 4]; 4], k: [[u8; 4]; 4]) -> [[u8; 4]; 4]
     ensures { result ≡ last_round s k }
 {
-    state::add_round_key(state::shift_rows(sub_bytes(sbox, s)), k)
+    state::add_round_key(state::shift_rows(sub.state(s)), k)
 }
 
 // Rounds 1 to 9, from the state to which round key 0 was added.
-fn nine<'a>(sbox: &'a [u8; 256], w: &'a [u8; 176], s0: [[u8; 4]; 4]) -> [[u8; 4]; 4]
-    requires { sbox.now ≡ sbox_table }
+fn nine<'a>(sub: &'a Substitution, w: &'a [u8; 176], s0: [[u8; 4]; 4]) -> [[u8; 4]; 4]
     ensures { result ≡ rounds w.now s0 9 }
 {
     let mut s = s0;
     let mut i: usize = 0;
     while i < 9 {
         i += 1;
-        let next = keyed(sbox, s, round_key(w, i));
+        let next = keyed(sub, s, round_key(w, i));
         s = next;
     }
     s
 }
 
 // The cipher E, Figure 5.
-pub(crate) fn encrypt<'a>(sbox: &'a [u8; 256], w: &'a [u8; 176], block: [u8; 16]) -> [u8; 16]
-    requires { sbox.now ≡ sbox_table }
+pub(crate) fn encrypt<'a>(sub: &'a Substitution, w: &'a [u8; 176], block: [u8; 16]) -> [u8; 16]
     ensures { result ≡ cipher w.now block }
 {
     let first = state::add_round_key(state::load(block), round_key(w, 0));
-    let ninth = nine(sbox, w, first);
-    state::store(last(sbox, ninth, round_key(w, 10)))
+    let ninth = nine(sub, w, first);
+    state::store(last(sub, ninth, round_key(w, 10)))
 }
 
 // The four-round function G: a key after each of the first three rounds, and none else.
 pub(crate) fn four(
-    sbox: &[u8; 256],
+    sub: &Substitution,
     u1: [u8; 16],
     u2: [u8; 16],
     u3: [u8; 16],
     block: [u8; 16],
 ) -> [u8; 16]
-    requires { sbox.now ≡ sbox_table }
     ensures { result ≡ four_rounds u1 u2 u3 block }
 {
-    let a = keyed(sbox, state::load(block), state::load(u1));
-    let b = keyed(sbox, a, state::load(u2));
-    let c = keyed(sbox, b, state::load(u3));
-    state::store(unkeyed(sbox, c))
+    let a = keyed(sub, state::load(block), state::load(u1));
+    let b = keyed(sub, a, state::load(u2));
+    let c = keyed(sub, b, state::load(u3));
+    state::store(unkeyed(sub, c))
 }

@@ -5,4 +5,4 @@ use Rattle.aes.proofs.rounds.last.Goals as goal
 
 pub returns : goal.returns
 unfolding last_round
-returns c = rw (c.add_round_key.ensures, c.shift_rows.ensures, c.sub_bytes.ensures)
+returns c = rw (c.add_round_key.ensures, c.shift_rows.ensures, c.state.ensures)

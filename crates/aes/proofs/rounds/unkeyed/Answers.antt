@@ -5,4 +5,4 @@ use Rattle.aes.proofs.rounds.unkeyed.Goals as goal
 
 pub returns : goal.returns
 unfolding unkeyed_round
-returns c = rw (c.mix_columns.ensures, c.shift_rows.ensures, c.sub_bytes.ensures)
+returns c = rw (c.mix_columns.ensures, c.shift_rows.ensures, c.state.ensures)
