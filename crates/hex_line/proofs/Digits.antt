@@ -14,13 +14,12 @@ use Rattle.laws.specs.Agree.{agree}
 use Rattle.laws.specs.Pick.{pick}
 use Rattle.laws.proofs.Agree.{agreed}
 use Rattle.laws.proofs.Cases.{below_or_not}
-use Rattle.hex_line.specs.declared.Read.{Read}
-use Rattle.hex_line.specs.declared.Read.TheVariants.{Value, Bad}
+use Rattle.std.specs.Prelude.{Option, None, Some}
 use Rattle.hex_line.specs.Digit.{digit_of, read_number, read_value, is_digit, value_of, character_of}
 use Rattle.hex_line.specs.Inner.{strange}
 
 -- G and whatever stands behind it, the lower case letters too, is no digit
-pub beyond : (c : ℕ) → 71 ≤ c → digit_of c ≡ Bad
+pub beyond : (c : ℕ) → 71 ≤ c → digit_of c ≡ None
 unfolding digit_of
 beyond c h = rw (le-leb 48 c (omega arith), lt-leb c 57 (omega arith), le-leb 65 c (omega arith), lt-leb c 70 (omega arith))
 
@@ -31,7 +30,7 @@ digit_below c d = ⊎_elim (λ h. h) (λ h. absurd (none h)) (below_or_not c 256
   where
     none : 256 ≤ c → ⊥
     none h =
-        let e : is_digit c ≡ false = ap (λ (r : Read). eqb (read_number r) 0) (beyond c (omega arith)) in
+        let e : is_digit c ≡ false = ap (λ (r : Option ℕ). eqb (read_number r) 0) (beyond c (omega arith)) in
         let z : ◌≡◌ {A = ℕ} 0 1 = cc in
         omega arith
 
@@ -92,15 +91,15 @@ pub character_reckoned : (first ten gap : ℕ) → T (agree (λ x. first + x + x
 character_reckoned first ten gap t v h = agreed (λ x. first + x + x / ten * gap) character_of 16 t v h
 
 -- what is read, by its number
-read_value_is : (r : Read) → eqb (read_number r) 0 ≡ true → Value (read_value r) ≡ r
+read_value_is : (r : Option ℕ) → eqb (read_number r) 0 ≡ true → Some (read_value r) ≡ r
 unfolding read_number read_value
-read_value_is (Value v) e = refl
-read_value_is Bad e = absurd (let z : ◌≡◌ {A = ℕ} 0 1 = cc in omega arith)
+read_value_is (Some v) e = refl
+read_value_is None e = absurd (let z : ◌≡◌ {A = ℕ} 0 1 = cc in omega arith)
 
-read_bad : (r : Read) → eqb (read_number r) 0 ≡ false → Bad ≡ r
+read_bad : (r : Option ℕ) → eqb (read_number r) 0 ≡ false → None ≡ r
 unfolding read_number
-read_bad (Value v) e = absurd (let z : ◌≡◌ {A = ℕ} 0 1 = cc in omega arith)
-read_bad Bad e = refl
+read_bad (Some v) e = absurd (let z : ◌≡◌ {A = ℕ} 0 1 = cc in omega arith)
+read_bad None e = refl
 
 -- the test of a character, by what was found strange in it
 pub strange_test : (c : ℕ) → eqb (strange c) 0 ≡ is_digit c
@@ -115,10 +114,10 @@ module _ (c : ℕ) {f : ℕ} (e : f ≡ strange c) where
   tested : is_digit c ≡ eqb f 0
   tested = sym (strange_test c) ∙ ap (λ (x : ℕ). eqb x 0) (sym e)
 
-  pub digit_value : f ≡ 0 → {v : ℕ} → (is_digit c ≡ true → v ≡ value_of c) → Value v ≡ digit_of c
+  pub digit_value : f ≡ 0 → {v : ℕ} → (is_digit c ≡ true → v ≡ value_of c) → Some v ≡ digit_of c
   digit_value z q =
       let d : is_digit c ≡ true = tested ∙ eq-eqb f 0 z in
-      ap (λ (x : ℕ). Value x) (q d) ∙ read_value_is (digit_of c) d
+      ap (λ (x : ℕ). Some x) (q d) ∙ read_value_is (digit_of c) d
 
-  pub digit_bad : (f ≡ 0 → ⊥) → Bad ≡ digit_of c
+  pub digit_bad : (f ≡ 0 → ⊥) → None ≡ digit_of c
   digit_bad h = read_bad (digit_of c) (tested ∙ ne_eqb f 0 h)

@@ -6,9 +6,13 @@ use Prim.Native.Nat.{ℕ, ◌*◌, ◌≤◌, ◌<◌}
 use native.Mathlib.Omega.{arith}
 use lib.ListN.{length, drop}
 use borrow.Author.Tests.{le-leb, lt-leb, eq-eqb, ne_eqb}
+use Rattle.std.specs.Prelude.{Ok, Err}
 use Rattle.laws.specs.Fault.{unless}
 use Rattle.laws.proofs.Fault.{unless_holds, unless_fails, fault_found, fault_pass, fault_last}
-use Rattle.hex_line.specs.declared.LineAnswer.{LineAnswer}
+use Rattle.numbers.specs.declared.Refusal.{Refusal}
+use Rattle.numbers.specs.Told.{number_of}
+use Rattle.numbers.proofs.Number.{not_done}
+use Rattle.hex_line.specs.Told.{told_line}
 use Rattle.hex_line.specs.Line.{is_hex}
 use Rattle.hex_line.specs.Answer.{decode_number, encode_number, refused_line, written_answer, written_space}
 use Rattle.hex_line.specs.Promise.{Writes}
@@ -46,16 +50,16 @@ module _ (n : ℕ) (bytes : List ℕ) where
 -- the outcome of writing x, by the number n of the first fault
 module _ (n : ℕ) (x space : List ℕ) where
   -- refused: the answer is the refusal, and the space as it was
-  pub writes_refused : {k : ℕ} {r : LineAnswer} → k ≡ n → (k ≡ 0 → ⊥) → r ≡ refused_line k → Writes n x space r space
-  unfolding written_answer written_space
-  writes_refused e h q =
-      let fails = ne_eqb n 0 (λ z. h (e ∙ z)) in
-      (q ∙ rw fails (ap refused_line e), rw fails)
+  pub writes_refused : (why : Refusal) → number_of why ≡ n → Writes n x space (told_line (Err why)) space
+  unfolding refused_line told_line written_answer written_space
+  writes_refused why e =
+      let fails = ne_eqb n 0 (λ z. not_done why (e ∙ z)) in
+      (rw fails (ap refused_line e), rw fails)
 
   -- no fault: 0, how much it is, and x over the front of the space
   pub writes_done : {w : ℕ} {after : List ℕ} → 0 ≡ n → w ≡ length x → after ≡ x ++ drop w space
-      → Writes n x space (record { number = 0; written = w }) after
-  unfolding written_answer written_space
+      → Writes n x space (told_line (Ok w)) after
+  unfolding told_line written_answer written_space
   writes_done e size q =
       let holds = eq-eqb n 0 (sym e) in (
         rw holds (ap (λ (w : ℕ). record { number = 0; written = w }) size),

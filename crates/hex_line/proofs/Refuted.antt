@@ -9,8 +9,8 @@ use lib.ListN.{length, get_or, drop, get_or-append}
 use lib.Seq.{get_or-append-add, get_or-drop}
 use borrow.Author.Tests.{le-leb, lt-leb}
 use Rattle.laws.proofs.Fault.{unless_fails}
-use Rattle.hex_line.specs.declared.LineAnswer.{LineAnswer}
-use Rattle.hex_line.specs.declared.Read.TheVariants.{Value, Bad}
+use Rattle.hex_line.specs.Told.{LineAnswer}
+use Rattle.std.specs.Prelude.{None, Some}
 use Rattle.hex_line.specs.Digit.{digit_of, read_value, is_digit, character_of}
 use Rattle.hex_line.specs.Line.{is_hex, byte_at, decoded, encoded}
 use Rattle.hex_line.specs.Answer.{encode_number}
@@ -22,25 +22,25 @@ use Rattle.hex_line.proofs.Outcome.{number_size, number_length, number_rest, num
 use Rattle.hex_line.proofs.Told.{number_by, written_by, unwritten, number_is, is_written, is_unwritten}
 
 -- a character that is no digit has a value
-none_with_value : (c v : ℕ) → digit_of c ≡ Bad → DigitPromise c (Value v) → ⊥
+none_with_value : (c v : ℕ) → digit_of c ≡ None → DigitPromise c (Some v) → ⊥
 none_with_value c v e p = let z : ◌≡◌ {A = ℕ} 0 1 = cc in omega arith
 
 -- `/` or a character before it is taken
-pub before_zero : (c v : ℕ) → c < 48 → DigitPromise c (Value v) → ⊥
+pub before_zero : (c v : ℕ) → c < 48 → DigitPromise c (Some v) → ⊥
 unfolding digit_of
 before_zero c v h p = none_with_value c v (rw (lt-leb 48 c h, lt-leb 65 c (omega arith))) p
 
 -- `:` or `@` or one between them is taken
-pub between_nine_and_a : (c v : ℕ) → 57 < c → c < 65 → DigitPromise c (Value v) → ⊥
+pub between_nine_and_a : (c v : ℕ) → 57 < c → c < 65 → DigitPromise c (Some v) → ⊥
 unfolding digit_of
 between_nine_and_a c v h l p = none_with_value c v (rw (le-leb 48 c (omega arith), lt-leb c 57 h, lt-leb 65 c l)) p
 
 -- `G` or a character behind it, as the lower case letters are, is taken
-pub letter_beyond : (c v : ℕ) → 71 ≤ c → DigitPromise c (Value v) → ⊥
+pub letter_beyond : (c v : ℕ) → 71 ≤ c → DigitPromise c (Some v) → ⊥
 letter_beyond c v h p = none_with_value c v (beyond c h) p
 
 -- A that stands for another number than ten
-pub a_not_ten : (v : ℕ) → (v ≡ 10 → ⊥) → DigitPromise 65 (Value v) → ⊥
+pub a_not_ten : (v : ℕ) → (v ≡ 10 → ⊥) → DigitPromise 65 (Some v) → ⊥
 unfolding digit_of read_value
 a_not_ten v h p = h (ap read_value p)
 

@@ -14,7 +14,7 @@ use Rattle.laws.proofs.Cases.{none_or_some}
 use Rattle.laws.specs.Fault.{unless}
 use Rattle.laws.specs.Pick.{pick}
 use Rattle.laws.proofs.Fault.{unless_none, none_of_three}
-use Rattle.hex_line.specs.declared.LineAnswer.{LineAnswer}
+use Rattle.hex_line.specs.Told.{LineAnswer}
 use Rattle.hex_line.specs.Line.{is_hex, decoded}
 use Rattle.hex_line.specs.Answer.{decode_number, refused_line, written_answer, written_space}
 use Rattle.hex_line.specs.Promise.{Writes, DecodePromise}

@@ -1,26 +1,24 @@
 -- The characters of a hexadecimal line: what value each stands for, and what character stands for a value.
 -- Assumes nothing.
-use Rattle.std.specs.Prelude.{Bool, ℕ, ◌+◌, ◌-◌, eqb, leb, ltb}
+use Rattle.std.specs.Prelude.{Bool, Option, None, Some, ℕ, ◌+◌, ◌-◌, eqb, leb, ltb}
 use Rattle.laws.specs.Agree.{both}
 use Rattle.laws.specs.Pick.{pick}
 use Rattle.numbers.specs.Numbers.{done, not_hex}
-use Rattle.hex_line.specs.declared.Read.{Read}
-use Rattle.hex_line.specs.declared.Read.TheVariants.{Value, Bad}
 
 -- what a character stands for: 0-9 (48 to 57) for 0 to 9, and A-F (65 to 70) for 10 to 15
-unfoldable pub digit_of : ℕ → Read
+unfoldable pub digit_of : ℕ → Option ℕ
 digit_of c =
-    pick (both (leb 48 c) (leb c 57)) (Value (c - 48)) (pick (both (leb 65 c) (leb c 70)) (Value (c - 65 + 10)) Bad)
+    pick (both (leb 48 c) (leb c 57)) (Some (c - 48)) (pick (both (leb 65 c) (leb c 70)) (Some (c - 65 + 10)) None)
 
 -- the number of each case: a value is no fault, and otherwise it is 9
-unfoldable pub read_number : Read → ℕ
-read_number (Value v) = done
-read_number Bad = not_hex
+unfoldable pub read_number : Option ℕ → ℕ
+read_number (Some v) = done
+read_number None = not_hex
 
 -- the value of each case: where there is none, 0
-unfoldable pub read_value : Read → ℕ
-read_value (Value v) = v
-read_value Bad = 0
+unfoldable pub read_value : Option ℕ → ℕ
+read_value (Some v) = v
+read_value None = 0
 
 -- a character is a digit
 abbrev pub is_digit : ℕ → Bool

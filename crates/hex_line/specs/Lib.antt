@@ -3,3 +3,4 @@ pub mod Digit
 pub mod Inner
 pub mod Line
 pub mod Promise
+pub mod Told

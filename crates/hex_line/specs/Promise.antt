@@ -1,19 +1,18 @@
 -- What the public functions of this crate promise, and that each promise leaves one answer, and one content of the lent space.
 -- Assumes nothing.
-use Rattle.std.specs.Prelude.{◌≡◌, List, ℕ, length}
+use Rattle.std.specs.Prelude.{◌≡◌, Option, List, ℕ, length}
 use Rattle.laws.proofs.Once.{once}
-use Rattle.hex_line.specs.declared.Read.{Read}
-use Rattle.hex_line.specs.declared.LineAnswer.{LineAnswer}
+use Rattle.hex_line.specs.Told.{LineAnswer}
 use Rattle.hex_line.specs.Digit.{digit_of}
 use Rattle.hex_line.specs.Line.{decoded, encoded}
 use Rattle.hex_line.specs.Answer.{decode_number, encode_number, written_answer, written_space}
 
 -- digit hands back what a character stands for
-abbrev pub DigitPromise : ℕ → Read → Type 0
+abbrev pub DigitPromise : ℕ → Option ℕ → Type 0
 DigitPromise c r = r ≡ digit_of c
 
 -- any two answers that digit may give are equal
-pub digit_once : (c : ℕ) (r r' : Read) → DigitPromise c r → DigitPromise c r' → r ≡ r'
+pub digit_once : (c : ℕ) (r r' : Option ℕ) → DigitPromise c r → DigitPromise c r' → r ≡ r'
 digit_once c r r' p q = once p q
 
 -- a call writes x in a lent space: with no fault it hands back 0 and how much it wrote, and the space then holds x from its start and is

@@ -2,43 +2,29 @@
 // between shore and ship has at most 510 of them.
 //
 //     let mut space = [0u8; 255];
-//     let answer = hex_line::decode(&line, &mut space);    // answer.number is 0
-//     let bytes = &space[..answer.written];
+//     let end = hex_line::decode(&line, &mut space)?;
+//     let bytes = &space[..end];
 //     let mut text = [0u8; 510];
-//     let back = hex_line::encode(bytes, &mut text);       // the line again: &text[..back.written]
+//     let back = hex_line::encode(bytes, &mut text)?;    // the line again: &text[..back]
 //
 // The characters may be those of a key. So in the source of decode and encode no branch and no address
 // depends on one, but for whether all of a line are digits. (Nothing is proved of time.)
 #![tactic(auto)]
 
 ghost use Rattle.std.specs.Prelude.{◌≡◌, true, ◌++◌, ◌+◌, ◌*◌, ◌/◌, ◌%◌, ◌≤◌, ◌<◌, length, drop};
-ghost use Rattle.hex_line.specs.Answer.{refused_line};
 ghost use Rattle.hex_line.specs.Digit.{is_digit, value_of, character_of};
 ghost use Rattle.hex_line.specs.Inner.{strange};
 ghost use Rattle.hex_line.specs.Line.{is_hex, decoded, encoded};
 ghost use Rattle.hex_line.specs.Promise.{DigitPromise, DecodePromise, EncodePromise};
+ghost use Rattle.hex_line.specs.Told.{told_line};
 
-use numbers::{BAD_LENGTH, BAD_SIZE, DONE, NOT_HEX};
+use numbers::Refusal;
 
 // The most characters of a line that is decoded.
 const LONGEST: usize = 510;
 
 // The least bytes of the space for it, which are the most that it decodes to.
 const SPACE: usize = 255;
-
-// What a character stands for: a value, or nothing, since it is no digit.
-#[derive(Clone, Copy)]
-pub enum Read {
-    Value(u8),
-    Bad,
-}
-
-// What decoding a line or encoding bytes answers: its number, and how many bytes or characters it wrote.
-#[derive(Clone, Copy)]
-pub struct LineAnswer {
-    pub number: u8,
-    pub written: usize,
-}
 
 // The value of a character that is a digit: the low half of 0-9 is its value, and that of A-F, which
 // stand behind 64, falls nine short.
@@ -56,13 +42,10 @@ fn fault(c: u8) -> u8
 }
 
 // What a character stands for: 0-9 and A-F, and no other.
-pub fn digit(c: u8) -> Read
+pub fn digit(c: u8) -> Option<u8>
     ensures { DigitPromise c result }
 {
-    if fault(c) == 0 {
-        return Read::Value(value(c));
-    }
-    Read::Bad
+    if fault(c) == 0 { Some(value(c)) } else { None }
 }
 
 // Whether a line is pairs of digits. Its faults are gathered over all of it, and tested once.
@@ -70,10 +53,8 @@ fn is_hex(line: &[u8]) -> bool
     ensures { result ≡ is_hex line.now }
 {
     let mut faults = (line.len() % 2) as u8;
-    let mut i: usize = 0;
-    while i < line.len() {
-        faults |= fault(line[i]);
-        i += 1;
+    for c in line {
+        faults |= fault(*c);
     }
     faults == 0
 }
@@ -90,40 +71,27 @@ fn fill<'a>(line: &'a [u8], space: &'a mut [u8])
     requires { (is_hex line.now ≡ true) × (length line.now / 2 ≤ length space.old) }
     ensures { space.new ≡ decoded line.now ++ drop (length line.now / 2) space.old }
 {
-    let n = line.len() / 2;
-    let mut i: usize = 0;
-    while i < n {
+    for i in 0..line.len() / 2 {
         space[i] = byte(line[2 * i], line[2 * i + 1]);
-        i += 1;
     }
 }
 
-// A refusal writes nothing.
-fn refused(number: u8) -> LineAnswer
-    ensures { result ≡ refused_line number }
-{
-    LineAnswer { number, written: 0 }
-}
-
-// Decodes a line into a lent space: its bytes from the start, none after them touched. Nothing is
-// written before all characters are judged.
-pub fn decode<'a>(line: &'a [u8], space: &'a mut [u8]) -> LineAnswer
-    ensures { DecodePromise line.now space.old result space.new }
+// Decodes a line into a lent space, and hands back how many bytes it has: they are laid from the start of
+// the space, and none after them is touched. Nothing is written before all characters are judged.
+pub fn decode<'a>(line: &'a [u8], space: &'a mut [u8]) -> Result<usize, Refusal>
+    ensures { DecodePromise line.now space.old (told_line result) space.new }
 {
     if space.len() < SPACE {
-        return refused(BAD_SIZE);
+        return Err(Refusal::BadSize);
     }
     if line.len() > LONGEST {
-        return refused(BAD_LENGTH);
+        return Err(Refusal::BadLength);
     }
     if !is_hex(line) {
-        return refused(NOT_HEX);
+        return Err(Refusal::NotHex);
     }
     fill(line, space);
-    LineAnswer {
-        number: DONE,
-        written: line.len() / 2,
-    }
+    Ok(line.len() / 2)
 }
 
 // The character of a value: the letters stand seven behind the digits.
@@ -152,26 +120,21 @@ fn spell<'a>(bytes: &'a [u8], space: &'a mut [u8])
     requires { 2 * length bytes.now ≤ length space.old }
     ensures { space.new ≡ encoded bytes.now ++ drop (2 * length bytes.now) space.old }
 {
-    let mut i: usize = 0;
-    while i < bytes.len() {
-        let b = bytes[i];
-        space[2 * i] = high(b);
-        space[2 * i + 1] = low(b);
-        i += 1;
+    for (i, b) in bytes.iter().enumerate() {
+        space[2 * i] = high(*b);
+        space[2 * i + 1] = low(*b);
     }
 }
 
-// Encodes bytes into a lent space: their line from its start, and no character after it touched.
-pub fn encode<'a>(bytes: &'a [u8], space: &'a mut [u8]) -> LineAnswer
-    ensures { EncodePromise bytes.now space.old result space.new }
+// Encodes bytes into a lent space, and hands back how many characters their line has: it is laid from the
+// start of the space, and no character after it is touched.
+pub fn encode<'a>(bytes: &'a [u8], space: &'a mut [u8]) -> Result<usize, Refusal>
+    ensures { EncodePromise bytes.now space.old (told_line result) space.new }
 {
     // half of the space, since twice the bytes might be more than a number holds
     if bytes.len() > space.len() / 2 {
-        return refused(BAD_SIZE);
+        return Err(Refusal::BadSize);
     }
     spell(bytes, space);
-    LineAnswer {
-        number: DONE,
-        written: 2 * bytes.len(),
-    }
+    Ok(2 * bytes.len())
 }

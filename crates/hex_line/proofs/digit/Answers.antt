@@ -8,5 +8,5 @@ returns-then-fault-eq0 c =
     digit_value c.args.c c.fault.ensures c.if-fault-eq0.true
     c.value.ensures.1
 
-pub returns : goal.returns
-returns c = digit_bad c.args.c c.fault.ensures c.if-fault-eq0.false
+pub returns-else-fault-eq0 : goal.returns-else-fault-eq0
+returns-else-fault-eq0 c = digit_bad c.args.c c.fault.ensures c.if-fault-eq0.false

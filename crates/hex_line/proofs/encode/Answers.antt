@@ -1,14 +1,15 @@
 -- `hex_line::encode` meets its contract. By whether the space has room.
 -- Assumes nothing.
-use mathlib.Core.Path.{sym}
-use native.Mathlib.Omega.{arith}
+use Rattle.std.proofs.Common.{sym}
+use Rattle.numbers.specs.Told.{number_of}
 use Rattle.hex_line.proofs.BothWays.{encoded_length}
 use Rattle.hex_line.proofs.Outcome.{number_room, number_cramped, writes_refused, writes_done}
 use borrow.Author.Rules.{rules}
 use Rattle.hex_line.proofs.encode.Goals as goal
 
 pub returns-then-bytes-space : goal.returns-then-bytes-space
-returns-then-bytes-space c = writes_refused _ _ _ (number_cramped _ _ (search rules)) (λ z. omega arith) c.refused.ensures
+unfolding number_of
+returns-then-bytes-space c = writes_refused _ _ _ _ (number_cramped _ _ (search rules))
 
 pub returns : goal.returns
 returns c =
