@@ -14,41 +14,15 @@ mod text;
 
 ghost use Rattle.std.specs.Prelude.{◌<◌};
 
-use text::Line;
-
-// The file descriptor of standard input.
-const STDIN: i32 = 0;
-
-// What is kept from line to line: whether there may be more, and the schedule of the last key.
-#[derive(Clone, Copy)]
-struct Turn {
-    more: bool,
-    w: [u8; 176],
-}
+use std::io::Read;
+use text::{Hex, Line};
 
 // Round key i of a schedule.
 fn round_key(w: &[u8; 176], i: usize) -> [u8; 16]
     requires { i < 11 }
 {
-    let o = 16 * i;
-    [
-        w[o],
-        w[o + 1],
-        w[o + 2],
-        w[o + 3],
-        w[o + 4],
-        w[o + 5],
-        w[o + 6],
-        w[o + 7],
-        w[o + 8],
-        w[o + 9],
-        w[o + 10],
-        w[o + 11],
-        w[o + 12],
-        w[o + 13],
-        w[o + 14],
-        w[o + 15],
-    ]
+    let (keys, _) = w.as_chunks::<16>();
+    keys[i]
 }
 
 // G under round keys 1, 2 and 3: what four rounds of the cipher do, up to the fourth MixColumns.
@@ -56,62 +30,44 @@ fn four(w: &[u8; 176], block: [u8; 16]) -> [u8; 16] {
     aes::four_rounds(round_key(w, 1), round_key(w, 2), round_key(w, 3), block)
 }
 
-// Answers a question about a block.
-fn ask(w: &[u8; 176], letter: u8, bytes: [u8; 16]) {
-    if letter == b'P' {
-        text::write_block(aes::encrypt_block(w, bytes));
-        return;
-    }
-    if letter == b'G' {
-        text::write_block(four(w, bytes));
-        return;
-    }
-    if letter == b'D' {
-        text::write_block(block::double(bytes));
-        return;
-    }
-    if letter == b'W' {
-        let words = aes::expand_key(bytes);
-        text::write_words(&words);
-        return;
-    }
-    text::write_unknown();
+// Writes bytes on a line. That a line cannot be written changes nothing for the next one.
+fn write(rt: &impl Print, bytes: &[u8]) {
+    let _ = println!(rt; "{}", Hex(bytes));
 }
 
-// Answers one line: the schedule after it.
-fn answered(line: Line, w: [u8; 176]) -> [u8; 176] {
+// A line that is no question.
+fn unknown(rt: &impl Print) {
+    let _ = println!(rt; "?");
+}
+
+// Answers a line under the schedule w of the last key, which a line may change.
+fn answer(rt: &impl Print, w: &mut [u8; 176], line: Line) {
     let bytes = line.bytes;
-    if line.letter == b'K' {
-        return aes::expand_key(bytes);
-    }
-    ask(&w, line.letter, bytes);
-    w
-}
-
-// Reads one line and answers it.
-fn take_turn(w: [u8; 176]) -> Turn {
-    let mut text = [0u8; 34];
-    let n = io::read_full(STDIN, &mut text);
-    if n < 34 {
-        return Turn { more: false, w };
-    }
-    Turn {
-        more: true,
-        w: answered(text::parsed(text), w),
+    match line.letter {
+        b'K' => *w = aes::expand_key(bytes),
+        b'P' => write(rt, &aes::encrypt_block(w, bytes)),
+        b'G' => write(rt, &four(w, bytes)),
+        b'D' => write(rt, &block::double(bytes)),
+        b'W' => {
+            for word in aes::expand_key(bytes).chunks_exact(4) {
+                write(rt, word);
+            }
+        }
+        _ => unknown(rt),
     }
 }
 
 // A proved loop has to end, and nothing says that the input does: it has as many turns as no run uses up.
-fn main() {
+fn main(rt: HostRuntime) {
     let mut w = aes::expand_key([0u8; 16]);
-    let mut turns = u64::MAX;
-    while turns > 0 {
-        let next = take_turn(w);
-        if !next.more {
+    for _ in 0..u64::MAX {
+        let mut text = [0u8; 34];
+        if rt.stdin().read_exact(&mut text).is_err() {
             return;
         }
-        let v = next.w;
-        w = v;
-        turns -= 1;
+        match text::parsed(text) {
+            Some(line) => answer(&rt, &mut w, line),
+            None => unknown(&rt),
+        }
     }
 }

@@ -1,9 +1,0 @@
--- `vectors::main` meets its contract. It is safe and ends: one turn fewer is left each time.
--- Assumes nothing.
-use Rattle.vectors.proofs.main.Given as goal
-
-abbrev pub invariant-loop-turns : goal.invariant-loop-turns
-invariant-loop-turns l = Unit {0}
-
-abbrev pub decreases-loop-turns : goal.decreases-loop-turns
-decreases-loop-turns l = l.turns
