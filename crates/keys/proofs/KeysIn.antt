@@ -19,7 +19,7 @@ use Rattle.keys.specs.Arrangement.{place_at, u_part, x_key, placed, arranged}
 use Rattle.keys.specs.Answer.{key_number, set_of, done_keys, key_answer}
 use Rattle.keys.specs.KeysIn.{keys_in}
 use Rattle.keys.proofs.Arrangement.{u_within, x_within}
-use Rattle.keys.proofs.Made.{placed_u, placed_x, placed_length, arranged_byte}
+use Rattle.keys.proofs.Stored.{placed_u, placed_x, placed_length, arranged_byte}
 use Rattle.keys.proofs.Number.{order_within, number_faultless}
 
 module _ (d : ℕ) (K L : Block) where

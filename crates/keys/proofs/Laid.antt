@@ -1,68 +1,65 @@
--- A block stored byte by byte: from the start, by one byte more, to the end.
+-- A block copied over the bytes of its place.
 -- Assumes nothing.
-use mathlib.Core.Path.{◌≡◌, refl, ap, sym, ◌∙◌}
-use mathlib.Core.Bool.{Bool, true, false}
+use Rattle.std.proofs.Common.{◌≡◌, sym, ap, ◌∙◌, List, ℕ, ◌+◌, ◌-◌, ◌*◌, ◌/◌, ◌%◌, ◌≤◌, ◌<◌, length, get_or, take, drop, arith}
+use Rattle.std.proofs.lemmas.List.{get_or-take, get_or-drop, get_or-append_right}
 use mathlib.Core.Logic.{⊎_elim}
-use mathlib.Core.List.{List}
-use Prim.Native.Nat.{ℕ, ◌+◌, ◌*◌, ◌/◌, ◌%◌, ◌≤◌, ◌<◌}
-use native.Mathlib.Nat.{not-suc-le-zero, eq-or-lt_of_le, le_of_suc-le-suc}
-use native.Mathlib.Numerals.{add-one}
-use native.Mathlib.Omega.{arith}
-use lib.Dec.{eqb}
-use lib.ListN.{length, get_or, set, length-set}
-use lib.Seq.{ext_get_or, get_or-set_same, get_or-set_other}
-use borrow.Author.Tests.{eqb-true, eqb-false}
+use lib.ListN.{length-append, length-drop, get_or-append}
+use lib.Seq.{ext_get_or, length-take-le}
+use borrow.Author.Tests.{eq-eqb, ne_eqb}
+use borrow.Rule.Slice.PartMut.{put_mid}
 use Rattle.laws.proofs.Agree.{table_length, table_at}
+use Rattle.laws.proofs.Cases.{below_or_not}
 use Rattle.block.specs.Block.{Block}
 use Rattle.keys.specs.Store.{laid_at, laid}
 
--- the first j bytes of the block stand at place n, and all else as it was
-pub record Laying (before : List ℕ) (n : ℕ) (block : Block) (r : List ℕ) (j : ℕ) : Type 0 where
-  pub size : length r ≡ 304
-  pub place : n < 19
-  pub most : j ≤ 16
-  pub new : (x : ℕ) → x < j → get_or r (16 * n + x) 0 ≡ get_or block x 0
-  pub old : (i : ℕ) → (i / 16 ≡ n → ⊥) → get_or r i 0 ≡ get_or before i 0
+module _ (before : List ℕ) (n : ℕ) (block : Block) (size : length before ≡ 304) (sixteen : length block ≡ 16) (place : n < 19) where
+  -- what stands before the place
+  front : length (take (16 * n) before) ≡ 16 * n
+  front = length-take-le (16 * n) before (omega arith)
 
-pub laying_none : (before : List ℕ) (n : ℕ) (block : Block) → length before ≡ 304 → n < 19 → Laying before n block before 0
-laying_none before n block h l = record {
-  size = h;
-  place = l;
-  most = omega arith;
-  new = λ x b. absurd (not-suc-le-zero b);
-  old = λ i e. refl;
-}
+  -- each byte, after a block is copied over the sixteen bytes of a place
+  put_at : (i : ℕ) → i < 304 → get_or (put_mid (16 * n) 16 before block) i 0 ≡ laid_at before n block i
+  put_at i h = ⊎_elim low (λ a. ⊎_elim (mid a) high (below_or_not i (16 * n + 16))) (below_or_not i (16 * n))
+    where
+      low : i < 16 * n → get_or (put_mid (16 * n) 16 before block) i 0 ≡ laid_at before n block i
+      low a =
+          let q : i / 16 ≡ n → ⊥ = λ z. omega arith in
+          rw (ne_eqb (i / 16) n q)
+          (get_or-append (take (16 * n) before) _ 0 i (omega (arith, front)) ∙ get_or-take (16 * n) before i 0 a)
 
-pub laying_more : {before r : List ℕ} {n j : ℕ} {block : Block} → Laying before n block r j → j < 16
-    → Laying before n block (set r (16 * n + j) (get_or block j 0)) (j + 1)
-laying_more {before} {r} {n} {j} {block} s h =
-    let b : 16 * n + j < length r = omega (arith, s.size, s.place) in
-    record {
-      size = simp length-set s.size;
-      place = s.place;
-      most = omega arith;
-      new =
-          λ x l.
-          ⊎_elim (λ e. rw e (get_or-set_same r (16 * n + j) (get_or block j 0) 0 b))
-          (λ l'.
-          let q : 16 * n + x ≡ 16 * n + j → ⊥ = λ z. omega arith in
-          get_or-set_other r (16 * n + j) (16 * n + x) (get_or block j 0) 0 q ∙ s.new x l')
-          (eq-or-lt_of_le (le_of_suc-le-suc (rw add-one at l)));
-      old =
-          λ i e.
-          let q : i ≡ 16 * n + j → ⊥ = λ z. e (omega arith) in
-          get_or-set_other r (16 * n + j) i (get_or block j 0) 0 q ∙ s.old i e;
-    }
+      mid : 16 * n ≤ i → i < 16 * n + 16 → get_or (put_mid (16 * n) 16 before block) i 0 ≡ laid_at before n block i
+      mid a b =
+          let q : i / 16 ≡ n = omega arith in
+          let p : i - 16 * n ≡ i % 16 = omega arith in
+          rw (eq-eqb (i / 16) n q)
+          (get_or-append_right (take (16 * n) before) _ (16 * n) i 0 front a ∙ get_or-append block _ 0 (i - 16 * n) (omega arith)
+          ∙ ap (λ (x : ℕ). get_or block x 0) p)
 
-pub laying_all : {before r : List ℕ} {n j : ℕ} {block : Block} → Laying before n block r j → 16 ≤ j → r ≡ laid before n block
-unfolding laid
-laying_all {before} {r} {n} {j} {block} s h =
-    ext_get_or 0 r (laid before n block) (s.size ∙ sym (table_length (laid_at before n block) 304))
-    (λ i l. by i (eqb (i / 16) n) refl ∙ sym (table_at (laid_at before n block) 304 i (omega (arith, s.size))))
-  where
-    by : (i : ℕ) (t : Bool) → eqb (i / 16) n ≡ t → get_or r i 0 ≡ laid_at before n block i
-    by i true e =
-        let q : i / 16 ≡ n = eqb-true (i / 16) n e in
-        let p : 16 * n + i % 16 ≡ i = omega arith in
-        rw e (ap (λ (x : ℕ). get_or r x 0) (sym p) ∙ s.new (i % 16) (omega arith))
-    by i false e = rw e (s.old i (eqb-false (i / 16) n e))
+      high : 16 * n + 16 ≤ i → get_or (put_mid (16 * n) 16 before block) i 0 ≡ laid_at before n block i
+      high b =
+          let q : i / 16 ≡ n → ⊥ = λ z. omega arith in
+          let p : 16 * n + (16 + (i - 16 * n - 16)) ≡ i = omega arith in
+          rw (ne_eqb (i / 16) n q)
+          (get_or-append_right (take (16 * n) before) _ (16 * n) i 0 front (omega arith)
+          ∙ get_or-append_right block _ 16 (i - 16 * n) 0 sixteen (omega arith)
+          ∙ get_or-drop 16 (drop (16 * n) before) (i - 16 * n - 16) 0
+          ∙ get_or-drop (16 * n) before (16 + (i - 16 * n - 16)) 0 ∙ ap (λ (x : ℕ). get_or before x 0) p)
+
+  put_length : length (put_mid (16 * n) 16 before block) ≡ 304
+  put_length =
+      length-append (take (16 * n) before) _
+      ∙ (let a = length-append block (drop 16 (drop (16 * n) before)) in
+      let b = length-drop 16 (drop (16 * n) before) in
+      let c = length-drop (16 * n) before in
+      omega (arith, a, b, c, front))
+
+  -- and all of them
+  pub laid_put : {k : ℕ} {new : Block} → k ≡ 16 → new ≡ block → put_mid (16 * n) k before new ≡ laid before n block
+  unfolding laid
+  laid_put e f =
+      rw (e, f)
+      (ext_get_or 0 (put_mid (16 * n) 16 before block) (laid before n block)
+      (put_length ∙ sym (table_length (laid_at before n block) 304))
+      (λ i l.
+      let h : i < 304 = omega (arith, put_length) in
+      put_at i h ∙ sym (table_at (laid_at before n block) 304 i h)))

@@ -1,6 +1,11 @@
 -- The key call's number by cases, and what number 0 tells; what is meant by an order and a tag length, 0 among them.
 -- Assumes nothing.
-use mathlib.Core.Path.{◌≡◌, refl}
+use mathlib.Core.Path.{◌≡◌, refl, ap, ◌∙◌}
+use Rattle.std.specs.Prelude.{Err}
+use Rattle.numbers.specs.declared.Refusal.{Refusal}
+use Rattle.numbers.specs.Told.{number}
+use Rattle.numbers.proofs.Number.{not_done}
+use Rattle.keys.specs.Told.{told_keys}
 use mathlib.Core.Bool.{Bool, true, false}
 use mathlib.Core.List.{List}
 use Prim.Native.Nat.{ℕ, zero, suc, ◌≤◌, ◌<◌}
@@ -93,3 +98,9 @@ module _ (order bits : ℕ) (K L : List ℕ) where
       → p ≡ resolved_tag bits → k ≡ K → l ≡ L → done_keys d p k l ≡ key_answer order bits K L
   unfolding key_answer
   answer_done h ed ep ek el = rw (eq-eqb (key_number order bits (length K) (length L)) 0 h, ed, ep, ek, el)
+
+  -- a refusal is told by the number of the fault that was found
+  pub answer_err : (why : Refusal) → number {A = Unit {0}} (Err why) ≡ key_number order bits (length K) (length L)
+      → told_keys (Err why) ≡ key_answer order bits K L
+  unfolding number told_keys refused_keys
+  answer_err why e = ap refused_keys e ∙ answer_refused (λ z. not_done why (e ∙ z))

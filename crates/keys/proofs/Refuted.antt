@@ -9,11 +9,11 @@ use Rattle.laws.proofs.UpTo.{up_to_is}
 use Rattle.block.specs.Bits.{binary, bits, value, bytes}
 use Rattle.block.specs.Block.{Block, zeros, ◌⊕◌, shifted, msb, reduction, mul2}
 use Rattle.pcmac.specs.Limits.{resolved, resolved_order, resolved_tag}
-use Rattle.keys.specs.declared.KeyAnswer.{KeyAnswer}
+use Rattle.keys.specs.Told.{KeyAnswer}
 use Rattle.keys.specs.declared.KeySet.{KeySet}
 use Rattle.keys.specs.Answer.{set_of, done_keys, refused_keys}
 use Rattle.keys.specs.Arrangement.{place_at}
-use Rattle.keys.specs.Promise.{UPartPromise, XKeyPromise, RefusedPromise, KeyCallPromise, BitsFaultPromise, SetFaultPromise}
+use Rattle.keys.specs.Promise.{UPartPromise, XKeyPromise, RefusedPromise, NoSetPromise, KeyCallPromise, BitsFaultPromise, SetFaultPromise}
 use Rattle.keys.proofs.Arrangement.{u_within, x_within}
 use Rattle.keys.proofs.Number.{number_tag, number_none, answer_refused, answer_done}
 use Rattle.keys.proofs.SetNumber.{Taken, bits_none, bits_within, taken_set}
@@ -27,10 +27,14 @@ fifth_u_missing subkeys j r low high some z p = some (sym (p ∙ u_within subkey
 pub fourth_x_missing : (subkeys : List ℕ) (r : Block) → (place_at subkeys 18 ≡ zeros → ⊥) → r ≡ zeros → XKeyPromise subkeys 4 r → ⊥
 fourth_x_missing subkeys r some z p = some (sym (p ∙ x_within subkeys 4 (omega arith) (omega arith)) ∙ z)
 
--- refused does not report a step
+-- a refusal does not report a step
 pub refused_with_steps : (number : ℕ) (r : KeyAnswer) → 1 ≤ r.steps → RefusedPromise number r → ⊥
 unfolding refused_keys
 refused_with_steps number r h p = let z : r.steps ≡ 0 = ap (λ (a : KeyAnswer). a.steps) p in omega arith
+
+-- no_set does not hand back a set with a tag length
+pub no_set_of_some_length : (r : KeySet) → 1 ≤ r.bits → NoSetPromise r → ⊥
+no_set_of_some_length r h p = let z : r.bits ≡ 0 = ap (λ (k : KeySet). k.bits) p in omega arith
 
 -- key_call does not refuse a tag length above 128 by the number 3
 pub tag_length_refused_as_size : (order bits : ℕ) (K L : List ℕ) (r : KeyAnswer) → order ≤ 5 → 128 < bits → r.number ≡ 3

@@ -1,14 +1,15 @@
 -- The key call's answer for every input.
 -- Assumes nothing.
-use Rattle.std.specs.Prelude.{List, ℕ, eqb, ltb, length, replicate}
+use Rattle.std.specs.Prelude.{List, ℕ, eqb, ltb, length}
 use Rattle.laws.specs.Agree.{both}
 use Rattle.laws.specs.Pick.{pick}
 use Rattle.aes.specs.Schedule.{schedule}
-use Rattle.block.specs.Block.{mul2, zeros}
+use Rattle.block.specs.Block.{mul2}
 use Rattle.pcmac.specs.Limits.{highest_order, longest_tag, resolved_order, resolved_tag}
 use Rattle.pcmac.specs.Keysch.{KEYSCH}
 use Rattle.keys.specs.declared.KeySet.{KeySet}
-use Rattle.keys.specs.declared.KeyAnswer.{KeyAnswer}
+use Rattle.keys.specs.Told.{KeyAnswer}
+pub use Rattle.keys.specs.Told.{no_set}
 use Rattle.keys.specs.Arrangement.{arranged}
 use Rattle.numbers.specs.Numbers.{done, bad_order, bad_tag_length, bad_size}
 
@@ -28,17 +29,6 @@ set_of d p K L = record {
   subkeys = arranged (KEYSCH d K L);
   full = mul2 L;
   short = mul2 (mul2 L);
-}
-
--- the set of zeros
-abbrev pub no_set : KeySet
-no_set = record {
-  order = 0;
-  bits = 0;
-  round = replicate 176 0;
-  subkeys = replicate 304 0;
-  full = zeros;
-  short = zeros;
 }
 
 -- done: 0, the steps that KEYSCH took, and the key set

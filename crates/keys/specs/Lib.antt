@@ -4,3 +4,4 @@ pub mod KeysIn
 pub mod Promise
 pub mod SetNumber
 pub mod Store
+pub mod Told

@@ -3,7 +3,7 @@
 use Rattle.std.specs.Prelude.{◌≡◌, List, ℕ}
 use Rattle.laws.proofs.Once.{once}
 use Rattle.block.specs.Block.{Block}
-use Rattle.keys.specs.declared.KeyAnswer.{KeyAnswer}
+use Rattle.keys.specs.Told.{KeyAnswer, no_set}
 use Rattle.keys.specs.declared.KeySet.{KeySet}
 use Rattle.keys.specs.Arrangement.{u_part, x_key}
 use Rattle.keys.specs.Answer.{refused_keys, key_answer}
@@ -25,13 +25,21 @@ XKeyPromise subkeys j r = r ≡ x_key subkeys j
 pub x_key_once : (subkeys : List ℕ) (j : ℕ) (r r' : Block) → XKeyPromise subkeys j r → XKeyPromise subkeys j r' → r ≡ r'
 x_key_once subkeys j r r' p q = once p q
 
--- refused hands back the number, no steps, and the set of zeros
+-- a refusal is told by its number, no steps, and the set of zeros
 abbrev pub RefusedPromise : ℕ → KeyAnswer → Type 0
 RefusedPromise number r = r ≡ refused_keys number
 
--- any two answers that refused may give are equal
+-- any two such answers are equal
 pub refused_once : (number : ℕ) (r r' : KeyAnswer) → RefusedPromise number r → RefusedPromise number r' → r ≡ r'
 refused_once number r r' p q = once p q
+
+-- no_set hands back the set of zeros
+abbrev pub NoSetPromise : KeySet → Type 0
+NoSetPromise r = r ≡ no_set
+
+-- any two answers that no_set may give are equal
+pub no_set_once : (r r' : KeySet) → NoSetPromise r → NoSetPromise r' → r ≡ r'
+no_set_once r r' p q = once p q
 
 -- key_call hands back the answer for the order, the tag length, K and L
 abbrev pub KeyCallPromise : ℕ → ℕ → List ℕ → List ℕ → KeyAnswer → Type 0

@@ -1,7 +1,7 @@
 // The key call: order, tag length, K and L to a key set, with the subkeys of PC-MAC-AES (NEC's
 // specification, Algorithm 2.1).
 //
-//     let made = keys::key_call(2, 64, &k, &l);        // number 0 where nothing was refused
+//     let made = keys::key_call(2, 64, &k, &l)?;         // or why it is refused
 //     let u = keys::u_part(&made.keys.subkeys, 2, 1);    // the first part of U_2
 //     let x = keys::x_key(&made.keys.subkeys, 1);        // the auxiliary key before U_2
 //
@@ -10,14 +10,16 @@
 
 mod subkeys;
 
-ghost use Rattle.std.specs.Prelude.{◌≡◌, ◌≤◌};
+ghost use Rattle.std.specs.Prelude.{◌≡◌, ◌≤◌, Ok};
 ghost use Rattle.laws.specs.UpTo.{up_to};
+ghost use Rattle.numbers.specs.Told.{number};
 ghost use Rattle.pcmac.specs.Limits.{resolved};
 ghost use Rattle.keys.specs.Answer.{key_number, done_keys};
-ghost use Rattle.keys.specs.Promise.{UPartPromise, XKeyPromise, RefusedPromise, KeyCallPromise};
+ghost use Rattle.keys.specs.Told.{told_keys};
+ghost use Rattle.keys.specs.Promise.{UPartPromise, XKeyPromise, NoSetPromise, KeyCallPromise};
 ghost use Rattle.keys.specs.Promise.{BitsFaultPromise, SetFaultPromise};
 
-use numbers::{BAD_ORDER, BAD_SIZE, BAD_TAG_LENGTH, DONE};
+use numbers::Refusal;
 
 // What the order and the tag length are where 0 is given, and their highest.
 const DEFAULT_ORDER: u8 = 2;
@@ -46,10 +48,9 @@ pub struct KeySet {
     pub short: [u8; 16],
 }
 
-// What the key call answers: its number, the whole-cipher steps that it took, and the key set.
+// What the key call makes: the whole-cipher steps that it took, and the key set.
 #[derive(Clone, Copy)]
-pub struct KeyAnswer {
-    pub number: u8,
+pub struct Made {
     pub steps: usize,
     pub keys: KeySet,
 }
@@ -70,23 +71,20 @@ pub fn x_key(subkeys: &[u8; 304], j: usize) -> [u8; 16]
     subkeys::x_key(subkeys, j)
 }
 
-// The first fault of what the key call was handed: the lowest number that applies.
-fn fault(order: usize, bits: usize, k: usize, l: usize) -> u8
-    ensures { result ≡ key_number order bits k l }
+// The first fault of what the key call was handed.
+fn fault(order: usize, bits: usize, k: usize, l: usize) -> Result<(), Refusal>
+    ensures { number result ≡ key_number order bits k l }
 {
     if order > HIGHEST_ORDER {
-        return BAD_ORDER;
+        return Err(Refusal::BadOrder);
     }
     if bits > LONGEST_TAG {
-        return BAD_TAG_LENGTH;
+        return Err(Refusal::BadTagLength);
     }
-    if k != 16 {
-        return BAD_SIZE;
+    if k != 16 || l != 16 {
+        return Err(Refusal::BadSize);
     }
-    if l != 16 {
-        return BAD_SIZE;
-    }
-    DONE
+    Ok(())
 }
 
 // What is meant by a number where 0 says that none is given.
@@ -96,28 +94,24 @@ fn meant(otherwise: u8, given: u8) -> u8
     if given == 0 { otherwise } else { given }
 }
 
-// A refused call hands back a set of zeros.
-pub fn refused(number: u8) -> KeyAnswer
-    ensures { RefusedPromise number result }
+// The set of zeros, which every later call refuses: what stands where no key set was made.
+pub fn no_set() -> KeySet
+    ensures { NoSetPromise result }
 {
-    KeyAnswer {
-        number,
-        steps: 0,
-        keys: KeySet {
-            order: 0,
-            bits: 0,
-            round: [0; 176],
-            subkeys: [0; 304],
-            full: [0; 16],
-            short: [0; 16],
-        },
+    KeySet {
+        order: 0,
+        bits: 0,
+        round: [0; 176],
+        subkeys: [0; 304],
+        full: [0; 16],
+        short: [0; 16],
     }
 }
 
 // The key set of K and L for an order and a tag length that are meant.
-fn done(order: u8, bits: u8, k: [u8; 16], l: [u8; 16]) -> KeyAnswer
+fn done(order: u8, bits: u8, k: [u8; 16], l: [u8; 16]) -> Made
     requires { (1 ≤ order) × (order ≤ 5) }
-    ensures { result ≡ done_keys order bits k l }
+    ensures { told_keys (Ok result) ≡ done_keys order bits k l }
 {
     let round = aes::expand_key(k);
     let taken = subkeys::made(&round, l, order);
@@ -125,8 +119,7 @@ fn done(order: u8, bits: u8, k: [u8; 16], l: [u8; 16]) -> KeyAnswer
     let subkeys = taken.subkeys;
     let full = block::double(l);
     let short = block::double(full);
-    KeyAnswer {
-        number: DONE,
+    Made {
         steps,
         keys: KeySet {
             order,
@@ -141,46 +134,40 @@ fn done(order: u8, bits: u8, k: [u8; 16], l: [u8; 16]) -> KeyAnswer
 
 // The key call. Order 0 is read as 2, and tag length 0 as 128. The key set has them so resolved: one
 // with 0 in either is refused by every later call.
-pub fn key_call<'a>(order: usize, bits: usize, k: &'a [u8], l: &'a [u8]) -> KeyAnswer
-    ensures { KeyCallPromise order bits k.now l.now result }
+pub fn key_call<'a>(order: usize, bits: usize, k: &'a [u8], l: &'a [u8]) -> Result<Made, Refusal>
+    ensures { KeyCallPromise order bits k.now l.now (told_keys result) }
 {
-    let number = fault(order, bits, k.len(), l.len());
-    if number != DONE {
-        return refused(number);
-    }
+    fault(order, bits, k.len(), l.len())?;
     let d = meant(DEFAULT_ORDER, order as u8);
     let p = meant(DEFAULT_TAG, bits as u8);
-    done(d, p, block::read(k, 0), block::read(l, 0))
+    Ok(done(d, p, block::read(k, 0), block::read(l, 0)))
 }
 
 // Whether a number is 1 to `most`.
 fn is_within(most: usize, n: usize) -> bool
     ensures { result ≡ up_to most n }
 {
-    if n == 0 {
-        return false;
-    }
-    n <= most
+    (1..=most).contains(&n)
 }
 
 // 2: there is no tag of so many bits.
-pub fn bits_fault(bits: u8) -> u8
-    ensures { BitsFaultPromise bits result }
+pub fn bits_fault(bits: u8) -> Result<(), Refusal>
+    ensures { BitsFaultPromise bits (number result) }
 {
     if is_within(LONGEST_TAG, bits as usize) {
-        DONE
+        Ok(())
     } else {
-        BAD_TAG_LENGTH
+        Err(Refusal::BadTagLength)
     }
 }
 
 // The first fault of a key set that is handed to a later call: 1, its order; 2, its tag length. No
 // other byte of it is judged.
-pub fn set_fault(keys: KeySet) -> u8
-    ensures { SetFaultPromise keys result }
+pub fn set_fault(keys: KeySet) -> Result<(), Refusal>
+    ensures { SetFaultPromise keys (number result) }
 {
     if !is_within(HIGHEST_ORDER, keys.order as usize) {
-        return BAD_ORDER;
+        return Err(Refusal::BadOrder);
     }
     bits_fault(keys.bits)
 }

@@ -24,11 +24,7 @@ fn place_at(subkeys: &[u8; 304], n: usize) -> [u8; 16]
     ensures { result ≡ place_at subkeys.now n }
 {
     let mut r = [0u8; 16];
-    let mut j: usize = 0;
-    while j < 16 {
-        r[j] = subkeys[16 * n + j];
-        j += 1;
-    }
+    r.copy_from_slice(&subkeys[16 * n..16 * n + 16]);
     r
 }
 
@@ -36,32 +32,22 @@ fn place_at(subkeys: &[u8; 304], n: usize) -> [u8; 16]
 pub(crate) fn u_part(subkeys: &[u8; 304], w: usize, j: usize) -> [u8; 16]
     ensures { result ≡ u_part subkeys.now w j }
 {
-    if w < 1 {
-        return [0; 16];
+    if (1..=5).contains(&w) && (1..=3).contains(&j) {
+        place_at(subkeys, 3 * (w - 1) + (j - 1))
+    } else {
+        [0; 16]
     }
-    if w > 5 {
-        return [0; 16];
-    }
-    if j < 1 {
-        return [0; 16];
-    }
-    if j > 3 {
-        return [0; 16];
-    }
-    place_at(subkeys, 3 * (w - 1) + (j - 1))
 }
 
 // The auxiliary key before U_(j+1).
 pub(crate) fn x_key(subkeys: &[u8; 304], j: usize) -> [u8; 16]
     ensures { result ≡ x_key subkeys.now j }
 {
-    if j < 1 {
-        return [0; 16];
+    if (1..=4).contains(&j) {
+        place_at(subkeys, AUXES + (j - 1))
+    } else {
+        [0; 16]
     }
-    if j > 4 {
-        return [0; 16];
-    }
-    place_at(subkeys, AUXES + (j - 1))
 }
 
 // The store: a block at a place.
@@ -70,11 +56,7 @@ fn put(subkeys: [u8; 304], n: usize, block: [u8; 16]) -> [u8; 304]
     ensures { result ≡ laid subkeys n block }
 {
     let mut r = subkeys;
-    let mut j: usize = 0;
-    while j < 16 {
-        r[16 * n + j] = block[j];
-        j += 1;
-    }
+    r[16 * n..16 * n + 16].copy_from_slice(&block);
     r
 }
 
@@ -97,11 +79,8 @@ fn run(round: &[u8; 176], l: [u8; 16], t: Taken, place: usize, counter: u8, n: u
     ensures { result ≡ ran (cipher round.now) l place counter t n }
 {
     let mut r = t;
-    let mut i: u8 = 0;
-    while i < n {
-        let next = take_one(round, l, r, place + i as usize, counter + i);
-        r = next;
-        i += 1;
+    for i in 0..n {
+        r = take_one(round, l, r, place + i as usize, counter + i);
     }
     r
 }

@@ -1,6 +1,6 @@
 -- `keys::done` meets its contract. Its callees, put together, are the definition's record.
 -- Assumes nothing.
-use Rattle.keys.proofs.Made.{done_is}
+use Rattle.keys.proofs.Stored.{done_is}
 use Rattle.keys.proofs.done.Goals as goal
 
 pub returns : goal.returns

@@ -2,7 +2,7 @@
 -- Assumes nothing.
 use native.Mathlib.Omega.{arith}
 use Rattle.keys.proofs.Ran.{ran_count, taken_runs}
-use borrow.Author.Rules.{rules}
+use Rattle.std.proofs.Common.{rules}
 use Rattle.keys.proofs.subkeys.made.Goals as goal
 
 pub run-requires : goal.run-requires

@@ -2,19 +2,19 @@
 -- Assumes nothing.
 use native.Mathlib.Omega.{arith}
 use Rattle.keys.proofs.Ran.{running_none, running_room, running_more, running_all}
-use borrow.Author.Rules.{rules}
+use Rattle.std.proofs.Common.{rules}
 use Rattle.keys.proofs.subkeys.run.Goals as goal
 
 pub loop-i-init : goal.loop-i-init
 loop-i-init c = running_none _ _ _ _ _ _ c.requires.0 c.requires.1 c.requires.2
 
-pub take_one-next-requires : goal.take_one-next-requires
-take_one-next-requires c =
+pub take_one-r-requires : goal.take_one-r-requires
+take_one-r-requires c =
     let v = c.loop-i.invariant in
     (omega (arith, v.places), running_room v (search rules))
 
 pub loop-i-preserved : goal.loop-i-preserved
-loop-i-preserved c = running_more c.loop-i.invariant (search rules) c.take_one-next.ensures
+loop-i-preserved c = running_more c.loop-i.invariant (search rules) c.take_one-r.ensures
 
 pub returns : goal.returns
 returns c = running_all c.loop-i.invariant (search rules)

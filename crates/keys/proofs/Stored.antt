@@ -1,5 +1,6 @@
 -- What Algorithm 2.1's store makes is the arranged subkeys of KEYSCH, with its steps.
 -- Assumes nothing.
+use Rattle.std.specs.Prelude.{Ok}
 use mathlib.Core.Path.{◌≡◌, refl, ap, sym, ◌∙◌}
 use mathlib.Core.Logic.{⊎_elim}
 use mathlib.Core.List.{List}
@@ -22,6 +23,7 @@ use Rattle.pcmac.proofs.Keysch.{made, keysch_u, keysch_u_none, keysch_x, keysch_
 use Rattle.keys.specs.declared.subkeys.Taken.{Taken}
 use Rattle.keys.specs.Arrangement.{placed, arranged}
 use Rattle.keys.specs.Answer.{set_of, done_keys}
+use Rattle.keys.specs.Told.{told_keys}
 use Rattle.keys.specs.Store.{laid_at, laid, stored, ran, untaken, taken}
 use Rattle.keys.proofs.Ran.{ran_steps}
 
@@ -175,13 +177,14 @@ taken_is d K L low high =
 -- the parts of the key set, as they are made one after the other, are the answer
 pub done_is : (order bits : ℕ) (K L : Block) (round : List ℕ) (t : Taken) (full short : Block) → 1 ≤ order → order ≤ 5
     → round ≡ schedule K → t ≡ taken (cipher round) L order → full ≡ mul2 L → short ≡ mul2 full
-    → record {
-      number = 0;
+    → told_keys
+    (Ok
+    (record {
       steps = t.steps;
       keys = record { order = order; bits = bits; round = round; subkeys = t.subkeys; full = full; short = short };
-    }
+    }))
     ≡ done_keys order bits K L
-unfolding done_keys set_of
+unfolding done_keys set_of told_keys
 done_is order bits K L round t full short low high er et ef es =
     let q : t ≡ record { subkeys = arranged (KEYSCH order K L); steps = (KEYSCH order K L).steps } =
     et ∙ ap (λ (w : List ℕ). taken (cipher w) L order) er ∙ taken_is order K L low high in
