@@ -41,11 +41,15 @@ table_entry z f n x h = from_at z f 0 n x h ∙ ap f (omega arith)
 pub table_at : (f : ℕ → ℕ) (n x : ℕ) → x < n → get_or (table f n) x 0 ≡ f x
 table_at f n x h = table_entry 0 f n x h
 
--- a list of n entries that passes the test against f is f's table
+-- a list of n entries that are f's is f's table
+pub is_table : {A : Type 0} (z : A) (f : ℕ → A) (l : List A) (n : ℕ) → length l ≡ n → ((i : ℕ) → i < n → get_or l i z ≡ f i) → l ≡ table f n
+is_table z f l n h at =
+    ext_get_or z l (table f n) (h ∙ sym (table_length f n))
+    (λ i b. let b' : i < n = rw h at b in at i b' ∙ sym (table_entry z f n i b'))
+
+-- and so is one of numbers that passes the test against f
 pub tabled : (f : ℕ → ℕ) (l : List ℕ) (n : ℕ) → length l ≡ n → T (agree (λ x. get_or l x 0) f n) → l ≡ table f n
-tabled f l n h t =
-    ext_get_or 0 l (table f n) (h ∙ sym (table_length f n))
-    (λ i b. agreed (λ x. get_or l x 0) f n t i (rw h at b) ∙ sym (table_at f n i (rw h at b)))
+tabled f l n h t = is_table 0 f l n h (agreed (λ x. get_or l x 0) f n t)
 
 from_more : {A : Type 0} (f : ℕ → A) (i n : ℕ) → from i (suc n) f ≡ from i n f ++ (f (i + n) ∷ [])
 from_more f i zero = ap (λ (x : ℕ). f x ∷ []) (omega arith)

@@ -10,6 +10,7 @@ pub mod Filled
 pub mod Four
 pub mod Laid
 pub mod Lent
+pub mod Made
 pub mod Once
 pub mod Or
 pub mod Up
