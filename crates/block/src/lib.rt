@@ -7,6 +7,8 @@ ghost use Rattle.block.specs.Block.{shifted};
 ghost use Rattle.block.specs.Promise.{XorPromise, NumberedPromise, DoublePromise};
 ghost use Rattle.block.specs.Promise.{JoinPromise, PadPromise, ReadPromise};
 
+use std::array;
+
 // What doubling adds where a bit is shifted out.
 const REDUCTION: u8 = 0x87;
 
@@ -14,13 +16,7 @@ const REDUCTION: u8 = 0x87;
 pub fn xor(x: [u8; 16], y: [u8; 16]) -> [u8; 16]
     ensures { XorPromise x y result }
 {
-    let mut r = [0u8; 16];
-    let mut i: usize = 0;
-    while i < 16 {
-        r[i] = x[i] ^ y[i];
-        i += 1;
-    }
-    r
+    array::from_fn(|i| x[i] ^ y[i])
 }
 
 // [i]: the number as 128 bits, big endian.
@@ -41,14 +37,7 @@ fn moved(byte: u8, next: u8) -> u8
 fn shift(x: [u8; 16]) -> [u8; 16]
     ensures { result ≡ shifted x }
 {
-    let mut r = [0u8; 16];
-    let mut i: usize = 0;
-    while i < 15 {
-        r[i] = moved(x[i], x[i + 1]);
-        i += 1;
-    }
-    r[15] = moved(x[15], 0);
-    r
+    array::from_fn(|i| moved(x[i], x.get(i + 1).copied().unwrap_or(0)))
 }
 
 // mul2(x). The block 0^120 ‖ 10000111 is [0x87].
@@ -67,43 +56,28 @@ fn byte_at(x: [u8; 16], n: usize, part: &[u8], i: usize) -> u8
     ensures { result ≡ get_or (take n x ++ part.now) i 0 }
 {
     if i < n {
-        return x[i];
+        x[i]
+    } else {
+        part.get(i - n).copied().unwrap_or(0)
     }
-    let j = i - n;
-    if j < part.len() { part[j] } else { 0 }
 }
 
 // The first n bytes of a block with a part behind them, as far as sixteen bytes go, and then zeros.
 pub fn join(x: [u8; 16], n: usize, part: &[u8]) -> [u8; 16]
     ensures { JoinPromise x n part.now result }
 {
-    let mut r = [0u8; 16];
-    let mut i: usize = 0;
-    while i < 16 {
-        r[i] = byte_at(x, n, part, i);
-        i += 1;
-    }
-    r
+    array::from_fn(|i| byte_at(x, n, part, i))
 }
 
 // Sixteen bytes of a slice, from `at` on, and zeros where it has ended.
 pub fn read(bytes: &[u8], at: usize) -> [u8; 16]
     ensures { ReadPromise bytes.now at result }
 {
-    let n = bytes.len();
-    if at > n {
-        return [0; 16];
+    let rest = bytes.get(at..).unwrap_or(&[]);
+    match rest.first_chunk() {
+        Some(block) => *block,
+        None => join([0; 16], 0, rest),
     }
-    if n - at < 16 {
-        return join([0u8; 16], 0, &bytes[at..]);
-    }
-    let mut r = [0u8; 16];
-    let mut i: usize = 0;
-    while i < 16 {
-        r[i] = bytes[at + i];
-        i += 1;
-    }
-    r
 }
 
 // pad of the first n bytes of a block: a full block stays, a shorter one gets 80 and then zeros.

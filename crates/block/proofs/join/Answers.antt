@@ -1,16 +1,12 @@
--- `block::join` meets its contract. After i turns the first i bytes are entered, and 16 - i turns are left.
+-- `block::join` meets its contract: each byte is what the closure gives of its place.
 -- Assumes nothing.
+use Rattle.std.proofs.Common.{rules, ◌++◌, get_or, take}
+use Rattle.laws.proofs.Made.{made_table}
 use Rattle.block.specs.Block.{sixteen}
-use Rattle.laws.proofs.Entered.{entered_none, entered_more, entered_all}
-use borrow.Author.Rules.{rules}
 use Rattle.block.proofs.join.Goals as goal
-
-pub loop-i-init : goal.loop-i-init
-loop-i-init c = entered_none _ _ _ (search rules)
-
-pub loop-i-preserved : goal.loop-i-preserved
-loop-i-preserved c = entered_more c.loop-i.invariant _ (search rules) c.byte_at.ensures
 
 pub returns : goal.returns
 unfolding sixteen
-returns c = entered_all c.loop-i.invariant (search rules)
+returns c =
+    let a = c.args in
+    made_table 0 (λ j. get_or (take a.n a.x ++ a.part.now) j 0) c.from_fn.ensures.items (λ i y q h made. search rules)

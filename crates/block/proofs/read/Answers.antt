@@ -1,33 +1,25 @@
--- `block::read` meets its contract. Where all sixteen bytes stand there, after i turns the first i are entered; 16 - i turns are left.
+-- `block::read` meets its contract, where sixteen bytes stand there.
 -- Assumes nothing.
-use mathlib.Core.Path.{refl, ap, sym, ◌∙◌}
+use Rattle.std.proofs.Common.{◌≡◌, ◌≤◌, ap, sym, ◌∙◌, List, [], ℕ, length, take, drop, Option, Some, None, Bor, arith}
+use Rattle.std.proofs.Common.{drop_of_length-le, refl, ⊎_elim}
+use Rattle.std.specs.Option.{unwrap_or}
+use Rattle.std.specs.Slice.{IsGetRangeResult}
 use Rattle.laws.proofs.Lent.{lent_rest}
-use Rattle.block.specs.Block.{sixteen}
-use Rattle.laws.proofs.Agree.{table_part}
-use Rattle.laws.proofs.Entered.{entered_none, entered_more, entered_all}
-use Rattle.block.proofs.Sixteen.{sixteen_whole, sixteen_beyond}
-use borrow.Author.Rules.{rules}
+use Rattle.block.proofs.Sixteen.{sixteen_long}
 use Rattle.block.proofs.read.Goals as goal
 
-pub returns-then-at-n : goal.returns-then-at-n
-returns-then-at-n c =
+-- what `get` lends from a place on, or nothing where the slice has ended there
+left : (l : List ℕ) (at : ℕ) (r : Option (Bor (List ℕ))) (none : Bor (List ℕ)) → none.now ≡ [] → IsGetRangeResult l at (length l) r
+    → (unwrap_or r none).now ≡ drop at l
+left l at None none e h =
+    let over : length l ≤ at = ⊎_elim (λ p. omega arith) (λ p. absurd (omega arith)) h.0 in
+    e ∙ sym (drop_of_length-le l over)
+left l at (Some x) none e h = h.0.2 ∙ lent_rest l at
+
+pub returns-in-Some : goal.returns-in-Some
+returns-in-Some c =
     let a = c.args in
-    sym (sixteen_beyond a.bytes.now a.at (search rules))
-
-pub returns-then-n-at-lt16 : goal.returns-then-n-at-lt16
-returns-then-n-at-lt16 c =
-    let a = c.args in
-    c.join.ensures ∙ ap sixteen (lent_rest a.bytes.now a.at)
-
-pub loop-i-init : goal.loop-i-init
-loop-i-init c = (search rules, entered_none _ _ _ (search rules))
-
-pub loop-i-preserved : goal.loop-i-preserved
-loop-i-preserved c =
-    let v = c.loop-i.invariant in
-    (v.0, entered_more v.1 _ (search rules) refl)
-
-pub returns : goal.returns
-returns c =
-    let v = c.loop-i.invariant in
-    entered_all v.1 (search rules) ∙ table_part _ _ 16 v.0 ∙ sym (sixteen_whole _ _ v.0)
+    let rest : c.unwrap_or-rest.result.now ≡ drop a.at a.bytes.now =
+    ap (λ (x : Bor (List ℕ)). x.now) c.unwrap_or-rest.ensures ∙ left a.bytes.now a.at c.get.result _ refl c.get.ensures.lookup in
+    let first = c.in-Some.ensures.cases in
+    first.same ∙ ap (λ (l : List ℕ). take 16 l) rest ∙ sym (sixteen_long (drop a.at a.bytes.now) (rw rest at first.enough))

@@ -1,18 +1,13 @@
--- `block::xor` meets its contract. After i turns the first i bytes are entered; 16 - i turns are left.
+-- `block::xor` meets its contract: each byte is what the closure gives of its place.
 -- Assumes nothing.
-use mathlib.Core.Path.{refl}
-use native.Mathlib.Omega.{arith}
-use Rattle.laws.proofs.Entered.{entered_none, entered_more, entered_all}
+use Rattle.std.proofs.Common.{rules, get_or}
+use Rattle.std.specs.Int.Bits.{bit_xor}
+use Rattle.laws.proofs.Made.{made_table}
 use Rattle.block.specs.Block.{◌⊕◌}
-use borrow.Author.Rules.{rules}
 use Rattle.block.proofs.xor.Goals as goal
-
-pub loop-i-init : goal.loop-i-init
-loop-i-init c = entered_none _ _ _ (search rules)
-
-pub loop-i-preserved : goal.loop-i-preserved
-loop-i-preserved c = entered_more c.loop-i.invariant _ (search rules) refl
 
 pub returns : goal.returns
 unfolding ◌⊕◌
-returns c = entered_all c.loop-i.invariant (omega arith)
+returns c =
+    let a = c.args in
+    made_table 0 (λ j. bit_xor (get_or a.x j 0) (get_or a.y j 0)) c.from_fn.ensures.items (λ i y q h made. search rules)
