@@ -1,12 +1,12 @@
 -- The well-formed rule as a record of facts, and the test that decides it.
 -- Assumes nothing.
-use mathlib.Core.Path.{◌≡◌, refl, sym, ◌∙◌}
+use mathlib.Core.Path.{◌≡◌, refl, ◌∙◌}
 use mathlib.Core.Bool.{Bool, true, false}
 use Prim.Native.Nat.{ℕ, ◌≤◌, ◌<◌}
-use native.Mathlib.Omega.{arith}
-use lib.Dec.{leb, eqb}
+use lib.Dec.{leb, ltb, eqb}
 use lib.ListN.{drop}
-use borrow.Author.Tests.{leb-true, eqb-true, le-leb, lt-leb, eq-eqb}
+use borrow.Author.Tests.{leb-true, eqb-true, le-leb, lt-leb, lt-ltb, eq-eqb}
+use Rattle.laws.specs.Agree.{both}
 use Rattle.laws.specs.Pick.{pick}
 use Rattle.laws.proofs.Both.{both_holds}
 use Rattle.chain.specs.Count.{whole_for, four_for}
@@ -62,38 +62,31 @@ formed_most d s f =
       eq-eqb s.four (four_for d s.total) f.fours,
     )
 
--- a total above 16
-pub formed_long : (d : ℕ) (s : Stream) → Mostly d s → 16 < s.total → true ≡ formed d s
-formed_long d s f h = sym (formed_most d s f ∙ rw (lt-leb s.total 16 h))
+-- six tests, one after the other, and the same from the last one on
+chained : (a b c d e f : Bool) → both (both (both (both (both a b) c) d) e) f ≡ both a (both b (both c (both d (both e f))))
+chained false b c d e f = refl
+chained true false c d e f = refl
+chained true true false d e f = refl
+chained true true true false e f = refl
+chained true true true true e f = refl
 
--- a total of at most 16
-pub formed_short : (d : ℕ) (s : Stream) → Mostly d s → s.total ≤ 16 → all_zero s.value ≡ formed d s
-formed_short d s f h = sym (formed_most d s f ∙ rw (le-leb s.total 16 h))
+-- the test as the code makes it, one field more at a time
+module _ (d : ℕ) (s : Stream) {v₂ v₃ v₄ v₅ : Bool} (e₂ : v₂ ≡ both (leb s.total message_limit) (eqb s.count (held_for s.total)))
+    (e₃ : v₃ ≡ both v₂ (all_zero (drop s.count s.held))) (e₄ : v₄ ≡ both v₃ (eqb s.whole (whole_for d s.total)))
+    (e₅ : v₅ ≡ both v₄ (eqb s.four (four_for d s.total))) where
+  formed_chain : both v₅ (pick (leb s.total 16) (all_zero s.value) true) ≡ formed d s
+  unfolding formed
+  formed_chain = rw (e₅, e₄, e₃, e₂) (chained (leb s.total message_limit) (eqb s.count (held_for s.total)) (all_zero (drop s.count s.held)) (eqb s.whole (whole_for d s.total))
+      (eqb s.four (four_for d s.total)) (pick (leb s.total 16) (all_zero s.value) true))
 
--- a fact that fails fails the test
-not_formed : (d : ℕ) (s : Stream) → (Mostly d s → ⊥) → false ≡ formed d s
-not_formed d s n = by (formed d s) refl
-  where
-    by : (t : Bool) → formed d s ≡ t → false ≡ formed d s
-    by true e = absurd (n (is_formed d s e).most)
-    by false e = sym e
+  pub formed_not : v₅ ≡ false → v₅ ≡ formed d s
+  formed_not e = let f = rw e at formed_chain in e ∙ f
 
-module _ (d : ℕ) (s : Stream) where
-  -- each fact by itself, the last three against what the closed formulas gave
-  pub not_size : message_limit < s.total → false ≡ formed d s
-  not_size h = not_formed d s (λ f. omega (arith, f.size))
+  pub formed_long : v₅ ≡ true → 16 < s.total → ltb 16 s.total ≡ formed d s
+  formed_long e h = let f = rw (e, lt-leb s.total 16 h) at formed_chain in lt-ltb 16 s.total h ∙ f
 
-  pub not_count : {n : ℕ} → n ≡ held_for s.total → (s.count ≡ n → ⊥) → false ≡ formed d s
-  not_count e h = not_formed d s (λ f. h (f.count ∙ sym e))
-
-  pub not_rest : all_zero (drop s.count s.held) ≡ false → false ≡ formed d s
-  not_rest e = not_formed d s (λ f. let z : ◌≡◌ {A = ℕ} 0 1 = cc (f.rest, e) in omega arith)
-
-  pub not_wholes : {n : ℕ} → n ≡ whole_for d s.total → (s.whole ≡ n → ⊥) → false ≡ formed d s
-  not_wholes e h = not_formed d s (λ f. h (f.wholes ∙ sym e))
-
-  pub not_fours : {n : ℕ} → n ≡ four_for d s.total → (s.four ≡ n → ⊥) → false ≡ formed d s
-  not_fours e h = not_formed d s (λ f. h (f.fours ∙ sym e))
+  pub formed_short : v₅ ≡ true → s.total ≤ 16 → {z : Bool} → z ≡ all_zero s.value → z ≡ formed d s
+  formed_short e h q = let f = rw (e, le-leb s.total 16 h) at formed_chain in q ∙ f
 
 -- the facts pass it
 pub formed_is : (d : ℕ) (s : Stream) → Formed d s → formed d s ≡ true

@@ -1,4 +1,3 @@
-pub mod Empty
 pub mod Faultless
 pub mod Formed
 pub mod Held

@@ -1,8 +1,11 @@
 -- What a total tells: the blocks settled, the bytes held, and the counts by closed formulas.
 -- Assumes nothing.
-use mathlib.Core.Path.{◌≡◌, sym}
+use mathlib.Core.Path.{◌≡◌, refl, ap, ◌∙◌}
+use Rattle.std.specs.Int.{div_ceil}
+use Rattle.laws.specs.Up.{up}
 use mathlib.Core.Logic.{⊎_elim}
-use Prim.Native.Nat.{ℕ, ◌+◌, ◌-◌, ◌*◌, ◌/◌, ◌%◌, ◌≤◌}
+use Prim.Native.Nat.{ℕ, zero, suc, ◌<◌, ◌+◌, ◌-◌, ◌*◌, ◌/◌, ◌%◌, ◌≤◌}
+use native.Mathlib.Nat.{add-mul-div_right, div-add-mod', mod-lt, div-eq_of_lt, add-mul}
 use native.Mathlib.Omega.{arith}
 use borrow.Author.Tests.{eq-eqb, ne_eqb}
 use Rattle.laws.proofs.Cases.{none_or_some}
@@ -45,8 +48,31 @@ total n = ⊎_elim none some (none_or_some n)
         let p : 1 ≤ n = omega arith in
         record { sum = omega (arith, settled_is n, h); held_most = omega (arith, h); some = λ l. omega (arith, h) }
 
--- the whole-cipher steps, from the blocks settled: no more than these
-pub wholes_are : (d n k : ℕ) → k ≡ settled n → ((k + d) / (d + 1) ≡ whole_for d n) × ((k + d) / (d + 1) ≤ settled n)
+-- a quotient rounded up by its remainder is one rounded up before it is divided
+ceil_up : (d k : ℕ) → div_ceil k (d + 1) ≡ up k (d + 1)
+ceil_up d k = by (k / (d + 1)) (k % (d + 1)) refl refl
+  where
+    -- d + 1 goes in q times and leaves r
+    times : (q r : ℕ) → r < d + 1 → (r + q * (d + 1)) / (d + 1) ≡ q
+    times q r h = let p : 0 < d + 1 = omega arith in add-mul-div_right r q p ∙ rw (div-eq_of_lt h) (omega arith)
+
+    by : (q r : ℕ) → k / (d + 1) ≡ q → k % (d + 1) ≡ r → div_ceil k (d + 1) ≡ up k (d + 1)
+    by q zero f g =
+        let e : k + d ≡ d + q * (d + 1) = omega (arith, div-add-mod' k (d + 1), ap (λ (x : ℕ). x * (d + 1)) f) in
+        let t = times q d (omega arith) in
+        rw (f, g, up_is d k, e, t) (omega arith)
+    by q (suc r) f g =
+        let p : 0 < d + 1 = omega arith in
+        let l = mod-lt k p in
+        let m : (q + 1) * (d + 1) ≡ q * (d + 1) + (d + 1) = rw add-mul (omega arith) in
+        let e : k + d ≡ r + (q + 1) * (d + 1) = omega (arith, div-add-mod' k (d + 1), ap (λ (x : ℕ). x * (d + 1)) f) in
+        let t = times (q + 1) r (omega arith) in
+        rw (f, g, up_is d k, e, t) (omega arith)
+
+-- the whole-cipher steps, from the blocks settled, rounded up by the remainder: no more than these
+pub wholes_are : (d n k r : ℕ) → k ≡ settled n → r ≡ div_ceil k (d + 1) → (r ≡ whole_for d n) × (r ≤ settled n)
 unfolding settled
-wholes_are d n k e =
-    (rw e (sym (up_is d (blocks n - 1))), rw (e, ← up_is d (blocks n - 1)) (up_most d (blocks n - 1)))
+wholes_are d n k r e f =
+    let q : r ≡ up k (d + 1) = f ∙ ceil_up d k in
+    let w : r ≡ whole_for d n = q ∙ ap (λ (m : ℕ). up m (d + 1)) e in
+    (w, rw w (up_most d (blocks n - 1)))

@@ -1,21 +1,25 @@
 // What is judged of what a call is handed, apart from its key set and its tag slice: the stream, and
-// the length of a message. Each function hands back the number of the fault, or 0.
+// the length of a message.
 //
-//     let fault = judge::stream_fault(2, s);     // 4 where the stream is not well formed for order 2
-//     let fault = judge::length_fault(0, n);     // 5 where n bytes are too many
+//     judge::stream_fault(2, s)?;     // BadStream where the stream is not well formed for order 2
+//     judge::length_fault(0, n)?;     // TooLong where n bytes are too many
 #![tactic(auto)]
 
-ghost use Rattle.std.specs.Prelude.{◌≡◌, ◌≤◌, drop};
+ghost use Rattle.std.specs.Prelude.{◌≡◌, ◌≤◌, ◌↔◌, IsTrue, EachIndex, slice_index, drop};
 ghost use Rattle.laws.specs.Fault.{unless};
+ghost use Rattle.numbers.specs.Told.{number, number_of};
 ghost use Rattle.chain.specs.Count.{whole_for, four_for};
 ghost use Rattle.chain.specs.Stream.{settled};
-ghost use Rattle.judge.specs.Stream.{held_for, all_zero, formed};
-ghost use Rattle.judge.specs.Promise.{StreamFaultPromise, LengthFaultPromise, EmptyFaultPromise, FirstPromise};
+ghost use Rattle.judge.specs.Stream.{held_for, formed};
+ghost use Rattle.judge.specs.Promise.{StreamFaultPromise, LengthFaultPromise, EmptyFaultPromise};
 
-use numbers::{BAD_STREAM, DONE, NO_BYTES, TOO_LONG};
+use numbers::Refusal;
 
 // The most bytes that a message may have.
 const MESSAGE_LIMIT: usize = 1048576;
+
+// Up to so many bytes no block is known not to be the last, so that the chain value is still zeros.
+const FIRST_BLOCK: usize = 16;
 
 // A message of which some bytes are known: what has to be kept of them until the next part comes.
 #[derive(Clone, Copy)]
@@ -37,36 +41,23 @@ pub struct Stream {
 
 // Whether every byte of a block from one on is zero.
 fn zero_from(a: [u8; 16], from: usize) -> bool
-    ensures { result ≡ all_zero (drop from a) }
+    ensures { IsTrue result ↔ EachIndex (drop from a) (λ k. slice_index (drop from a) k ≡ 0) }
 {
-    let mut i = from;
-    while i < 16 {
-        if a[i] != 0 {
-            return false;
-        }
-        i += 1;
-    }
-    true
+    a.iter().skip(from).all(|b| *b == 0)
 }
 
 // Of n bytes, how many blocks are known not to be the last.
 fn settled_of(n: usize) -> usize
     ensures { result ≡ settled n }
 {
-    if n == 0 {
-        return 0;
-    }
-    (n - 1) / 16
+    n.saturating_sub(1) / 16
 }
 
 // How many bytes are held of n.
 fn held_for(n: usize) -> usize
     ensures { result ≡ held_for n }
 {
-    if n == 0 {
-        return 0;
-    }
-    (n - 1) % 16 + 1
+    n - 16 * settled_of(n)
 }
 
 // The whole-cipher steps of n bytes, by the closed formula.
@@ -74,8 +65,7 @@ fn wholes_for(d: u8, n: usize) -> usize
     requires { n ≤ 1048576 }
     ensures { (result ≡ whole_for d n) × (result ≤ settled n) }
 {
-    let k = d as usize;
-    (settled_of(n) + k) / (k + 1)
+    settled_of(n).div_ceil(d as usize + 1)
 }
 
 // The four-round steps of n bytes, by the closed formula.
@@ -90,68 +80,38 @@ fn fours_for(d: u8, n: usize) -> usize
 fn is_formed(d: u8, s: Stream) -> bool
     ensures { result ≡ formed d s }
 {
-    let total = s.total;
-    if total > MESSAGE_LIMIT {
-        return false;
-    }
-    let n = s.count;
-    if n != held_for(total) {
-        return false;
-    }
-    let held = s.held;
-    if !zero_from(held, n) {
-        return false;
-    }
-    if s.whole != wholes_for(d, total) {
-        return false;
-    }
-    if s.four != fours_for(d, total) {
-        return false;
-    }
-    if total > 16 {
-        return true;
-    }
-    let value = s.value;
-    zero_from(value, 0)
+    s.total <= MESSAGE_LIMIT
+        && s.count == held_for(s.total)
+        && zero_from(s.held, s.count)
+        && s.whole == wholes_for(d, s.total)
+        && s.four == fours_for(d, s.total)
+        && (s.total > FIRST_BLOCK || zero_from(s.value, 0))
 }
 
-// 0 where the test holds, otherwise the number of the fault.
-fn unless(holds: bool, number: u8) -> u8
-    ensures { result ≡ unless holds number }
+// Nothing is refused where the test holds.
+fn unless(holds: bool, why: Refusal) -> Result<(), Refusal>
+    ensures { number result ≡ unless holds (number_of why) }
 {
-    if holds { DONE } else { number }
+    if holds { Ok(()) } else { Err(why) }
 }
 
 // 4: the stream is not well formed for the order.
-pub fn stream_fault(order: u8, s: Stream) -> u8
-    ensures { StreamFaultPromise order s result }
+pub fn stream_fault(order: u8, s: Stream) -> Result<(), Refusal>
+    ensures { StreamFaultPromise order s (number result) }
 {
-    unless(is_formed(order, s), BAD_STREAM)
+    unless(is_formed(order, s), Refusal::BadStream)
 }
 
 // 5: so many bytes and n more are together more than a message may have.
-pub fn length_fault(total: usize, n: usize) -> u8
-    ensures { LengthFaultPromise total n result }
+pub fn length_fault(total: usize, n: usize) -> Result<(), Refusal>
+    ensures { LengthFaultPromise total n (number result) }
 {
-    if total > MESSAGE_LIMIT {
-        return TOO_LONG;
-    }
-    unless(n <= MESSAGE_LIMIT - total, TOO_LONG)
+    unless(total.saturating_add(n) <= MESSAGE_LIMIT, Refusal::TooLong)
 }
 
 // 6: there are no bytes, and an empty message is not allowed.
-pub fn empty_fault(allowed: bool, n: usize) -> u8
-    ensures { EmptyFaultPromise allowed n result }
+pub fn empty_fault(allowed: bool, n: usize) -> Result<(), Refusal>
+    ensures { EmptyFaultPromise allowed n (number result) }
 {
-    if allowed {
-        return DONE;
-    }
-    unless(n >= 1, NO_BYTES)
-}
-
-// The first of two faults, in the order in which they are judged.
-pub fn first(a: u8, b: u8) -> u8
-    ensures { FirstPromise a b result }
-{
-    if a != DONE { a } else { b }
+    unless(allowed || n >= 1, Refusal::NoBytes)
 }

@@ -1,11 +1,11 @@
 -- `judge::empty_fault` meets its contract. By whether an empty message is allowed.
 -- Assumes nothing.
-use mathlib.Core.Path.{◌∙◌}
-use Rattle.judge.proofs.Empty.{empty_allowed, empty_not}
+use Rattle.std.proofs.Common.{rules, ◌∙◌}
+use Rattle.numbers.specs.Told.{number_of}
+use Rattle.judge.specs.Fault.{empty_number}
 use Rattle.judge.proofs.empty_fault.Goals as goal
-
-pub returns-then-allowed : goal.returns-then-allowed
-returns-then-allowed c = empty_allowed _ _ c.if-allowed.true
+use Rattle.judge.proofs.empty_fault.Goals.{then-allowed, else-allowed}
 
 pub returns : goal.returns
-returns c = c.unless.ensures ∙ empty_not _ _ c.if-allowed.false
+unfolding number_of empty_number
+returns c = c.unless.ensures ∙ elim c.if-allowed.branch [ then-allowed w ↦ search rules | else-allowed w ↦ search rules ]

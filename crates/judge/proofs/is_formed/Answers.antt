@@ -1,43 +1,92 @@
--- `judge::is_formed` meets its contract. One field after the other; where all but the chain value are as they should be, it decides.
+-- `judge::is_formed` meets its contract. One field after the other, each joined with those before it; then by whether they all are as
+-- they should be, by the total.
 -- Assumes nothing.
-use mathlib.Core.Path.{◌∙◌}
-use Rattle.laws.proofs.Cases.{test_fails, test_holds}
-use Rattle.judge.proofs.Formed.{Mostly, formed_long, formed_short}
-use Rattle.judge.proofs.Formed.{not_size, not_count, not_rest, not_wholes, not_fours}
-use borrow.Author.Rules.{rules}
+use Rattle.std.proofs.Common.{rules, ◌≡◌, eqb, leb, drop}
+use Rattle.laws.specs.Agree.{both}
+use Rattle.chain.specs.Count.{whole_for, four_for}
+use Rattle.judge.specs.Stream.{held_for, all_zero}
+use Rattle.judge.proofs.Zeros.{zeros_test}
+use Rattle.judge.proofs.Formed.{formed_not, formed_long, formed_short}
 use Rattle.judge.proofs.is_formed.Goals as goal
-use Rattle.judge.proofs.is_formed.Goals.{Else-s-fours_for}
+use Rattle.judge.proofs.is_formed.Goals.{then-s-le-MESSAGE_LIMIT, else-s-le-MESSAGE_LIMIT, then-s-held_for, else-s-held_for}
+use Rattle.judge.proofs.is_formed.Goals.{then-zero_from, else-zero_from, then-s-wholes_for, else-s-wholes_for}
+use Rattle.judge.proofs.is_formed.Goals.{Then-s-fours_for, Else-s-fours_for}
 
--- all but the chain value
-mostly : (c : Else-s-fours_for)
-    → let a = c.args in
-    Mostly a.d a.s
-mostly c =
-    record {
-      size = search rules;
-      count = c.if-n-held_for.false ∙ c.held_for.ensures;
-      rest = test_holds c.zero_from.ensures c.if-not-zero_from.false;
-      wholes = c.if-s-wholes_for.false ∙ c.wholes_for.ensures.0;
-      fours = c.if-s-fours_for.false ∙ c.fours_for.ensures;
-    }
+first : (c : Then-s-fours_for)
+    → c.if-s-le-MESSAGE_LIMIT.value ≡ both (leb c.args.s.total 1048576) (eqb c.args.s.count (held_for c.args.s.total))
+first c =
+    elim c.if-s-le-MESSAGE_LIMIT.branch [
+      | then-s-le-MESSAGE_LIMIT w ↦ search rules
+      | else-s-le-MESSAGE_LIMIT w ↦ search rules
+    ]
 
-pub returns-then-total-gt-MESSAGE_LIMIT : goal.returns-then-total-gt-MESSAGE_LIMIT
-returns-then-total-gt-MESSAGE_LIMIT c = not_size _ _ (search rules)
+second : (c : Then-s-fours_for)
+    → c.if-s-held_for.value ≡ both c.if-s-le-MESSAGE_LIMIT.value (all_zero (drop c.args.s.count c.args.s.held))
+second c =
+    elim c.if-s-held_for.branch [
+      | then-s-held_for w ↦ let z = zeros_test _ _ w.zero_from.ensures in search rules
+      | else-s-held_for w ↦ search rules
+    ]
 
-pub returns-then-n-held_for : goal.returns-then-n-held_for
-returns-then-n-held_for c = not_count _ _ c.held_for.ensures c.if-n-held_for.true
+third : (c : Then-s-fours_for)
+    → c.if-zero_from.value ≡ both c.if-s-held_for.value (eqb c.args.s.whole (whole_for c.args.d c.args.s.total))
+third c =
+    elim c.if-zero_from.branch [
+      | then-zero_from w ↦ search rules
+      | else-zero_from w ↦ search rules
+    ]
 
-pub returns-then-not-zero_from : goal.returns-then-not-zero_from
-returns-then-not-zero_from c = not_rest _ _ (test_fails c.zero_from.ensures c.if-not-zero_from.true)
+fourth : (c : Then-s-fours_for)
+    → c.if-s-wholes_for.value ≡ both c.if-zero_from.value (eqb c.args.s.four (four_for c.args.d c.args.s.total))
+fourth c =
+    elim c.if-s-wholes_for.branch [
+      | then-s-wholes_for w ↦ search rules
+      | else-s-wholes_for w ↦ search rules
+    ]
 
-pub returns-then-s-wholes_for : goal.returns-then-s-wholes_for
-returns-then-s-wholes_for c = not_wholes _ _ c.wholes_for.ensures.0 c.if-s-wholes_for.true
+pub returns-then-s-gt-FIRST_BLOCK : goal.returns-then-s-gt-FIRST_BLOCK
+returns-then-s-gt-FIRST_BLOCK c =
+    let p = (goal.at.returns-then-s-gt-FIRST_BLOCK c).Then-s-fours_for in
+    formed_long _ _ (first p) (second p) (third p) (fourth p) c.if-s-fours_for.true c.if-s-gt-FIRST_BLOCK.true
 
-pub returns-then-s-fours_for : goal.returns-then-s-fours_for
-returns-then-s-fours_for c = not_fours _ _ c.fours_for.ensures c.if-s-fours_for.true
+pub returns-else-s-gt-FIRST_BLOCK : goal.returns-else-s-gt-FIRST_BLOCK
+returns-else-s-gt-FIRST_BLOCK c =
+    let p = (goal.at.returns-else-s-gt-FIRST_BLOCK c).Then-s-fours_for in
+    formed_short _ _ (first p) (second p) (third p) (fourth p) c.if-s-fours_for.true c.if-s-gt-FIRST_BLOCK.false
+    (zeros_test _ _ c.zero_from-else-s-gt-FIRST_BLOCK.ensures)
 
-pub returns-then-total-gt16 : goal.returns-then-total-gt16
-returns-then-total-gt16 c = formed_long _ _ (mostly (goal.at.returns-then-total-gt16 c).Else-s-fours_for) (search rules)
+-- the same where one of them is not
+first' : (c : Else-s-fours_for)
+    → c.if-s-le-MESSAGE_LIMIT.value ≡ both (leb c.args.s.total 1048576) (eqb c.args.s.count (held_for c.args.s.total))
+first' c =
+    elim c.if-s-le-MESSAGE_LIMIT.branch [
+      | then-s-le-MESSAGE_LIMIT w ↦ search rules
+      | else-s-le-MESSAGE_LIMIT w ↦ search rules
+    ]
 
-pub returns : goal.returns
-returns c = c.zero_from-2.ensures ∙ formed_short _ _ (mostly (goal.at.returns c).Else-s-fours_for) (search rules)
+second' : (c : Else-s-fours_for)
+    → c.if-s-held_for.value ≡ both c.if-s-le-MESSAGE_LIMIT.value (all_zero (drop c.args.s.count c.args.s.held))
+second' c =
+    elim c.if-s-held_for.branch [
+      | then-s-held_for w ↦ let z = zeros_test _ _ w.zero_from.ensures in search rules
+      | else-s-held_for w ↦ search rules
+    ]
+
+third' : (c : Else-s-fours_for)
+    → c.if-zero_from.value ≡ both c.if-s-held_for.value (eqb c.args.s.whole (whole_for c.args.d c.args.s.total))
+third' c =
+    elim c.if-zero_from.branch [
+      | then-zero_from w ↦ search rules
+      | else-zero_from w ↦ search rules
+    ]
+
+fourth' : (c : Else-s-fours_for)
+    → c.if-s-wholes_for.value ≡ both c.if-zero_from.value (eqb c.args.s.four (four_for c.args.d c.args.s.total))
+fourth' c =
+    elim c.if-s-wholes_for.branch [
+      | then-s-wholes_for w ↦ search rules
+      | else-s-wholes_for w ↦ search rules
+    ]
+
+pub returns-else-s-fours_for : goal.returns-else-s-fours_for
+returns-else-s-fours_for c = formed_not _ _ (first' c) (second' c) (third' c) (fourth' c) c.if-s-fours_for.false

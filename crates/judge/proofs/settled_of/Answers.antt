@@ -1,11 +1,8 @@
--- `judge::settled_of` meets its contract. By whether there are any bytes.
+-- `judge::settled_of` meets its contract. Of no bytes and of one there is none.
 -- Assumes nothing.
-use native.Mathlib.Omega.{arith}
+use Rattle.std.proofs.Common.{ap, ◌∙◌, ℕ, ◌/◌}
 use Rattle.judge.proofs.Total.{settled_is}
 use Rattle.judge.proofs.settled_of.Goals as goal
 
-pub returns-then-n-eq0 : goal.returns-then-n-eq0
-returns-then-n-eq0 c = omega (arith, settled_is c.args.n)
-
 pub returns : goal.returns
-returns c = settled_is _
+returns c = ap (λ (k : ℕ). k / 16) c.saturating_sub.ensures ∙ settled_is _
