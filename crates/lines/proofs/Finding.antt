@@ -1,61 +1,71 @@
--- Where the next line feed stands: a search that passes over characters without one, a character at a time or sixteen.
+-- Where the next line feed stands: a search that passes over characters without one, and what is ahead of it.
 -- Assumes nothing.
-use mathlib.Core.Path.{◌≡◌, refl, ap, sym, ◌∙◌}
-use mathlib.Core.Bool.{Bool, true, false}
-use mathlib.Core.List.{List, [], ◌∷◌, ◌++◌}
-use Prim.Native.Nat.{ℕ, ◌+◌, ◌≤◌, ◌<◌}
-use native.Mathlib.Numerals.{add-one}
-use native.Mathlib.Omega.{arith}
-use lib.Bits.{bit_or}
-use lib.Dec.{eqb}
-use lib.ListN.{length, get_or, take, drop, length-append, length-drop, take-append-drop, drop_of_length-le}
-use lib.Seq.{take-suc, drop-cons, drop-drop, length-take-le}
-use borrow.Author.Tests.{eq-eqb, ne_eqb}
+use Rattle.std.proofs.Common.{◌≡◌, refl, ap, sym, ◌∙◌, Bool, true, false, cond, Some, None, List, [], ◌∷◌, ◌++◌, ℕ}
+use Rattle.std.proofs.Common.{◌+◌, ◌-◌, ◌≤◌, ◌<◌, eqb, ltb, bit_or, length, get_or, take, drop, length-append, length-drop, take-append-drop, add-one, arith}
+use Rattle.std.specs.List.{position, position_or_len}
+use Rattle.std.specs.Option.{unwrap_or}
+use Rattle.std.proofs.Math.ListN.{drop_of_length-le}
+use Rattle.std.proofs.Math.Seq.{take-suc, take-add, take_all, length-take-le}
+use Rattle.std.proofs.lemmas.List.{take_rest}
+use Rattle.std.proofs.lemmas.List.Recursion.{is_position_or_len}
+use borrow.Author.Tests.{eqb-true, ltb-false}
 use mir.Val.{bool_byte}
+use Rattle.laws.specs.Pick.{pick}
 use Rattle.laws.proofs.Or.{or_none}
 use Rattle.lines.specs.Lines.{line_feed, plain}
 use Rattle.lines.specs.Gather.{line_end}
-use Rattle.lines.proofs.Plain.{plain_feed, plain_more, plain_append}
+use Rattle.lines.proofs.Plain.{plain_more, plain_most, plain_append}
 
--- from a place i the line ends where it ends from a place before
-pub record Leads (part : List ℕ) (at i : ℕ) : Type 0 where
-  pub same : line_end part i ≡ line_end part at
+-- characters of which none is a line feed, and those behind them, up to another place
+pub passed_more : (part : List ℕ) (n end : ℕ) → n ≤ end → plain (take n part) ≡ take n part
+    → plain (take (end - n) (drop n part)) ≡ take (end - n) (drop n part) → plain (take end part) ≡ take end part
+passed_more part n end h p q =
+    let e : n + (end - n) ≡ end = omega arith in
+    let t = ap (λ (k : ℕ). take k part) (sym e) ∙ take-add n (end - n) part in
+    ap plain t ∙ plain_append (take n part) (take (end - n) (drop n part)) p ∙ ap (λ (x : List ℕ). take n part ++ x) q ∙ sym t
 
-pub leads_none : (part : List ℕ) (at : ℕ) → Leads part at at
-leads_none part at = record { same = refl }
+-- so the line ends behind them where it ends in what is left
+pub passed_end : (part : List ℕ) (at : ℕ) {rest : List ℕ} {n a : ℕ} → rest ≡ drop at part → n ≤ length rest
+    → plain (take n rest) ≡ take n rest → a ≡ length (plain (take (length rest - n) (drop n rest))) → at + n + a ≡ line_end part at
+passed_end part at {rest} {n} {a} e h p q =
+    let size : length (take n rest) ≡ n = length-take-le n rest h in
+    let z : plain rest ≡ take n rest ++ plain (drop n rest) =
+    ap plain (sym (take-append-drop n rest)) ∙ plain_append (take n rest) (drop n rest) p in
+    let l = ap length z ∙ length-append (take n rest) (plain (drop n rest)) in
+    let b : a ≡ length (plain (drop n rest)) = q ∙ ap (λ (x : List ℕ). length (plain x)) (take_rest rest n) in
+    let d : length (plain rest) ≡ length (plain (drop at part)) = ap (λ (x : List ℕ). length (plain x)) e in
+    omega (arith, l, size)
 
-module _ {part : List ℕ} {at i : ℕ} (e : Leads part at i) where
-  -- at the part's end
-  pub leads_end : length part ≤ i → i ≡ line_end part at
-  unfolding plain
-  leads_end h = omega (arith, e.same, ap (λ (x : List ℕ). length (plain x)) (drop_of_length-le part h))
+-- within the part
+pub end_within : (part : List ℕ) (at : ℕ) → at ≤ length part → line_end part at ≤ length part
+end_within part at h = omega (arith, plain_most (drop at part), length-drop at part)
 
-  -- at a character: a line feed, or another
-  module _ (h : i < length part) where
-    next_char : drop i part ≡ get_or part i 0 ∷ drop (i + 1) part
-    next_char = rw add-one (drop-cons part i 0 h)
+-- at the part's end there are none
+pub ends_behind : (part : List ℕ) (at : ℕ) → length part ≤ at → at ≡ line_end part at
+unfolding plain
+ends_behind part at h = omega (arith, ap (λ (x : List ℕ). length (plain x)) (drop_of_length-le part h))
 
-    pub leads_feed : get_or part i 0 ≡ line_feed → i ≡ line_end part at
-    leads_feed f =
-        let z : plain (drop i part) ≡ [] =
-        ap plain next_char ∙ plain_feed (get_or part i 0) (drop (i + 1) part) (eq-eqb (get_or part i 0) line_feed f) in
-        omega (arith, e.same, ap length z)
+-- so many stand before the first line feed, or all where there is none
+plain_position : (part : List ℕ) → length (plain part) ≡ position_or_len (λ c. eqb c line_feed) part
+unfolding plain
+plain_position part = is_position_or_len (λ x. length (plain x)) (λ c. eqb c line_feed) refl more part
+  where
+    more : (c : ℕ) (cs : List ℕ) → length (plain (c ∷ cs)) ≡ cond (eqb c line_feed) 0 (1 + length (plain cs))
+    more c cs = by (eqb c line_feed)
+      where
+        by : (t : Bool) → length (pick t [] (c ∷ plain cs)) ≡ cond t 0 (1 + length (plain cs))
+        by true = refl
+        by false = omega arith
 
-    pub leads_more : (get_or part i 0 ≡ line_feed → ⊥) → Leads part at (i + 1)
-    leads_more f =
-        let z = ap plain next_char ∙ plain_more (get_or part i 0) (drop (i + 1) part) (ne_eqb (get_or part i 0) line_feed f) in
-        record { same = omega (arith, e.same, ap length z) }
-
-  -- over n characters of which none is a line feed
-  pub leads_past : (n : ℕ) → i + n ≤ length part → plain (take n (drop i part)) ≡ take n (drop i part) → Leads part at (i + n)
-  leads_past n h p =
-      let front = take n (drop i part) in
-      let size : length front ≡ n = length-take-le n (drop i part) (omega (arith, length-drop i part)) in
-      let z : plain (drop i part) ≡ front ++ plain (drop (i + n) part) =
-      ap plain (sym (take-append-drop n (drop i part))) ∙ plain_append front (drop n (drop i part)) p
-      ∙ ap (λ (x : List ℕ). front ++ plain x) (drop-drop n i part) in
-      let l = ap length z ∙ length-append front (plain (drop (i + n) part)) in
-      record { same = omega (arith, e.same, l, size) }
+pub plain_ahead : (part : List ℕ) → unwrap_or (position (λ c. eqb c line_feed) part) (length part) ≡ length (plain part)
+plain_ahead part = by (ltb (position_or_len (λ c. eqb c line_feed) part) (length part)) refl
+  where
+    by : (t : Bool) → ltb (position_or_len (λ c. eqb c line_feed) part) (length part) ≡ t
+        → unwrap_or (cond t (Some (position_or_len (λ c. eqb c line_feed) part)) None) (length part) ≡ length (plain part)
+    by true e = sym (plain_position part)
+    by false e =
+        let n : length part ≤ position_or_len (λ c. eqb c line_feed) part = ltb-false _ _ e in
+        omega (arith, plain_position part, plain_most part)
 
 -- where nothing was gathered, none of the first i characters is a line feed
 pub record Clear (l : List ℕ) (n i : ℕ) : Type 0 where
@@ -82,3 +92,6 @@ clear_more {l} {n} {i} {x} v h q = record {
       ap plain t ∙ plain_append (take i l) (c ∷ []) (v.none f.0)
       ∙ ap (λ (y : List ℕ). take i l ++ y) (plain_more c [] g) ∙ sym t;
 }
+
+pub clear_all : {l : List ℕ} {n i : ℕ} → Clear l n i → length l ≤ i → eqb n 0 ≡ true → plain l ≡ l
+clear_all {l} {n} {i} v h e = rw (take_all i l h) at (v.none (eqb-true n 0 e))

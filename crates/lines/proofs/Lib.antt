@@ -1,5 +1,4 @@
 pub mod Finding
-pub mod Gathering
 pub mod Moving
 pub mod Plain
 pub mod Reader

@@ -1,16 +1,14 @@
--- A line in its array, with zeros behind it: at no characters, by one character more, and to its end.
+-- A line in its array, with zeros behind it: at no characters, and with more copied behind them.
 -- Assumes nothing.
-use mathlib.Core.Path.{◌≡◌, ap, sym, ◌∙◌}
-use mathlib.Core.List.{List, [], ◌∷◌, ◌++◌}
-use Prim.Native.Nat.{ℕ, suc, ◌+◌, ◌-◌, ◌≤◌, ◌<◌}
-use native.Mathlib.Numerals.{add-one}
-use native.Mathlib.Omega.{arith}
-use lib.ListN.{length, get_or, take, set, replicate, length-append}
-use lib.Seq.{take_all, take-suc, length-take-le, set-append_seam, append_snoc}
-use Rattle.laws.specs.Filled.{filled}
+use Rattle.std.proofs.Common.{◌≡◌, refl, ap, ap₂, sym, ◌∙◌, List, [], ◌∷◌, ◌++◌, ℕ, zero}
+use Rattle.std.proofs.Common.{suc, ◌+◌, ◌-◌, ◌≤◌, min, length, take, drop, replicate, append_assoc, length-append, arith}
+use Rattle.std.proofs.Math.ListN.{length-take}
+use Rattle.std.proofs.Math.Seq.{take-append-add, drop-drop, drop-append-add}
+use Rattle.std.proofs.lemmas.List.{drop-replicate}
+use borrow.Rule.Slice.PartMut.{put_mid}
 use Rattle.laws.proofs.Filled.{filled_length, filled_short, filled_front}
 use Rattle.lines.specs.Reader.{kept_chars}
-use Rattle.lines.specs.Gather.{laid}
+use Rattle.lines.specs.Gather.{laid, longer, gathered}
 
 pub laid_length : (l : List ℕ) → length (laid l) ≡ kept_chars
 unfolding laid
@@ -26,45 +24,55 @@ pub laid_front : (l : List ℕ) → length l ≤ kept_chars → take (length l) 
 unfolding laid
 laid_front l h = filled_front kept_chars l h
 
--- a character stored behind them
-filled_more : (n : ℕ) (l : List ℕ) (c : ℕ) → length l < n → set (filled n l) (length l) c ≡ filled n (l ++ (c ∷ []))
-filled_more n l c h =
-    let m = n - length (l ++ (c ∷ [])) in
-    let s : length (l ++ (c ∷ [])) ≡ length l + 1 = length-append l (c ∷ []) in
-    let e : n - length l ≡ suc m = omega arith in
-    ap (λ (x : List ℕ). set x (length l) c) (filled_short n l (omega arith) ∙ ap (λ (k : ℕ). l ++ replicate k 0) e)
-    ∙ set-append_seam l 0 (replicate m 0) c ∙ sym (append_snoc l c (replicate m 0)) ∙ sym (filled_short n (l ++ (c ∷ [])) (omega arith))
-
-pub laid_more : {r : List ℕ} (l : List ℕ) (n c : ℕ) → r ≡ laid l → length l ≡ n → n < kept_chars → set r n c ≡ laid (l ++ (c ∷ []))
+-- more characters stored behind them
+pub laid_put : (b x : List ℕ) → length b + length x ≤ kept_chars → put_mid (length b) (length x) (laid b) x ≡ laid (b ++ x)
 unfolding laid
-laid_more {r} l n c t e h =
-    ap (λ (x : List ℕ). set x n c) t ∙ ap (λ (j : ℕ). set (laid l) j c) (sym e) ∙ filled_more kept_chars l c (omega arith)
+laid_put b x h =
+    let n = length b in
+    let k = length x in
+    let short : laid b ≡ b ++ replicate (kept_chars - n) 0 = filled_short kept_chars b (omega arith) in
+    let size : length (b ++ x) ≡ n + k = length-append b x in
+    let rest : drop (n + k) (laid b) ≡ replicate (kept_chars - (n + k)) 0 =
+    ap (drop (n + k)) short ∙ drop-append-add b (replicate (kept_chars - n) 0) k ∙ drop-replicate k (kept_chars - n) 0
+    ∙ ap (λ (j : ℕ). replicate j 0) (omega arith) in
+    let behind : drop k (drop n (laid b)) ≡ replicate (kept_chars - length (b ++ x)) 0 =
+    drop-drop k n (laid b) ∙ rest ∙ ap (λ (j : ℕ). replicate (kept_chars - j) 0) (sym size) in
+    ap₂ (λ (y z : List ℕ). y ++ (x ++ z)) (laid_front b (omega arith)) behind
+    ∙ sym (append_assoc b x (replicate (kept_chars - length (b ++ x)) 0)) ∙ sym (filled_short kept_chars (b ++ x) (omega arith))
 
--- the first i characters of a line stand in the array, and up to `count` may be copied
-pub record Tidied (line : List ℕ) (count : ℕ) (r : List ℕ) (i : ℕ) : Type 0 where
-  pub within : i ≤ count
-  pub source : i ≤ kept_chars
-  pub same : r ≡ laid (take i line)
+-- as many as there are
+take_again : (n : ℕ) (l : List ℕ) → take (length (take n l)) l ≡ take n l
+take_again zero l = refl
+take_again (suc n) [] = refl
+take_again (suc n) (c ∷ l) = ap (λ (x : List ℕ). c ∷ x) (take_again n l)
 
-pub tidied_none : (line : List ℕ) (count : ℕ) → Tidied line count (replicate kept_chars 0) 0
-tidied_none line count = record { within = omega arith; source = omega arith; same = laid_none }
+-- the first characters of a line, copied into an array of zeros
+pub tidied : {x z : List ℕ} (line : List ℕ) (count : ℕ) {n : ℕ} → z ≡ replicate kept_chars 0 → length line ≡ kept_chars
+    → n ≡ min count kept_chars → x ≡ take n line → x ++ drop n z ≡ laid (take count line)
+tidied {x} {z} line count {n} f s m e =
+    let b = take count line in
+    let size : length b ≡ n = length-take count line ∙ ap (min count) s ∙ sym m in
+    let first : x ≡ b = e ∙ ap (λ (j : ℕ). take j line) (sym size) ∙ take_again count line in
+    ap₂ (λ (y : List ℕ) (j : ℕ). y ++ drop j z) first (sym size) ∙ ap (λ (y : List ℕ). b ++ drop (length b) y) (f ∙ laid_none)
+    ∙ laid_put [] b (omega (arith, size))
 
-pub tidied_more : {line r : List ℕ} {count i : ℕ} → Tidied line count r i → length line ≡ kept_chars → i < kept_chars → i < count
-    → Tidied line count (set r i (get_or line i 0)) (i + 1)
-tidied_more {line} {r} {count} {i} t s h k = record {
-  within = omega arith;
-  source = omega arith;
-  same =
-      laid_more (take i line) i (get_or line i 0) t.same (length-take-le i line (omega arith)) h
-      ∙ rw add-one (ap laid (sym (take-suc line i 0 (omega arith))));
-}
-
--- so many
-pub tidied_all : {line r : List ℕ} {count i : ℕ} → Tidied line count r i → count ≤ i → r ≡ laid (take count line)
-tidied_all {line} {r} {count} {i} t h = let e : i ≡ count = omega (arith, t.within) in t.same ∙ ap (λ (j : ℕ). laid (take j line)) e
-
--- or as many as there are
-pub tidied_whole : {line r : List ℕ} {count i : ℕ} → Tidied line count r i → length line ≡ kept_chars → kept_chars ≤ i
-    → r ≡ laid (take count line)
-tidied_whole {line} {r} {count} {i} t s h =
-    t.same ∙ ap laid (take_all i line (omega arith) ∙ sym (take_all count line (omega (arith, t.within))))
+-- a line, counted, and more characters copied behind it, as many as are kept
+pub gathers : {r x : List ℕ} (line : List ℕ) (count : ℕ) (more : List ℕ) {n k : ℕ} → length line ≡ kept_chars
+    → r ≡ laid (take count line) → n ≡ min count kept_chars → k ≡ min (length more) (kept_chars - n) → x ≡ take (n + k - n) more
+    → record { line = put_mid n (n + k - n) r x; count = n + k } ≡ gathered line count more
+unfolding gathered
+gathers {r} {x} line count more {n} {k} s t m l e =
+    let b = take count line in
+    let y = take (kept_chars - n) more in
+    let size : length b ≡ n = length-take count line ∙ ap (min count) s ∙ sym m in
+    let few : length y ≡ k = length-take (kept_chars - n) more ∙ omega arith in
+    let part : n + k - n ≡ length y = omega arith in
+    let taken : x ≡ y = e ∙ ap (λ (j : ℕ). take j more) part ∙ take_again (kept_chars - n) more in
+    let room : length b + (kept_chars - n) ≡ kept_chars = omega arith in
+    let all : longer line count more ≡ b ++ y =
+    ap (λ (j : ℕ). take j (b ++ more)) (sym room) ∙ take-append-add b more (kept_chars - n) in
+    let put : put_mid n (n + k - n) r x ≡ laid (longer line count more) =
+    ap₂ (λ (i j : ℕ). put_mid i j r x) (sym size) part ∙ ap₂ (put_mid (length b) (length y)) t taken
+    ∙ laid_put b y (omega arith) ∙ ap laid (sym all) in
+    let counted : n + k ≡ length (longer line count more) = omega (arith, length-append b y, ap length all) in
+    λ i. record { line = put i; count = counted i }

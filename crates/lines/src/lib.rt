@@ -7,7 +7,7 @@
 //     let g = lines::gather(line, count, &part[at..end]);     // g.line has g.count characters of it
 #![tactic(auto)]
 
-ghost use Rattle.std.specs.Prelude.{◌≡◌, true, ◌+◌, ◌-◌, ◌≤◌, leb, length, take, drop};
+ghost use Rattle.std.specs.Prelude.{◌≡◌, true, ◌≤◌, length, take};
 ghost use Rattle.lines.specs.Lines.{plain};
 ghost use Rattle.lines.specs.Promise.{TidyPromise, HeldPromise, GatherPromise, FindPromise};
 
@@ -20,7 +20,7 @@ pub const KEPT: usize = 511;
 // So many characters are looked at together.
 const STRIDE: usize = 16;
 
-// The line so far, with zeros behind its characters, and how many they are.
+// The line so far, with zeros behind its characters, and how many they are. Memory is fixed, so it is no Vec.
 #[derive(Clone, Copy)]
 pub struct Gathered {
     pub line: [u8; KEPT],
@@ -31,15 +31,9 @@ pub struct Gathered {
 pub fn tidy(line: [u8; KEPT], count: usize) -> [u8; KEPT]
     ensures { TidyPromise line count result }
 {
+    let kept = held(count);
     let mut r = [0u8; KEPT];
-    let mut i: usize = 0;
-    while i < KEPT {
-        if i >= count {
-            return r;
-        }
-        r[i] = line[i];
-        i += 1;
-    }
+    r[..kept].copy_from_slice(&line[..kept]);
     r
 }
 
@@ -47,7 +41,7 @@ pub fn tidy(line: [u8; KEPT], count: usize) -> [u8; KEPT]
 pub fn held(count: usize) -> usize
     ensures { HeldPromise count result }
 {
-    if count < KEPT { count } else { KEPT }
+    count.min(KEPT)
 }
 
 // The line that the first characters of an array are, with more behind them, as many as are kept.
@@ -55,68 +49,59 @@ pub fn gather(line: [u8; KEPT], count: usize, more: &[u8]) -> Gathered
     ensures { GatherPromise line count more.now result }
 {
     let mut r = tidy(line, count);
-    let mut n = held(count);
-    let mut i: usize = 0;
-    while i < more.len() {
-        if n >= KEPT {
-            return Gathered { line: r, count: n };
-        }
-        r[n] = more[i];
-        n += 1;
-        i += 1;
+    let n = held(count);
+    let end = n + more.len().min(KEPT - n);
+    r[n..end].copy_from_slice(&more[..end - n]);
+    Gathered {
+        line: r,
+        count: end,
     }
-    Gathered { line: r, count: n }
 }
 
-// True only where none of sixteen characters from a place on is a line feed. There is no branch on a
-// character, so that the compiler looks at all of them at once.
-fn clear(part: &[u8], at: usize) -> bool
-    requires { at + 16 ≤ length part.now }
-    ensures { result ≡ true → plain (take 16 (drop at part.now)) ≡ take 16 (drop at part.now) }
+// True only where none of some characters is a line feed. There is no branch on a character, so that
+// the compiler looks at all of them at once.
+fn clear(some: &[u8]) -> bool
+    ensures { result ≡ true → plain some.now ≡ some.now }
 {
     let mut n: u8 = 0;
-    let mut i: usize = 0;
-    while i < STRIDE {
-        n |= (part[at + i] == LINE_FEED) as u8;
-        i += 1;
+    for c in some {
+        n |= (*c == LINE_FEED) as u8;
     }
     n == 0
 }
 
-// Whether sixteen characters more stand in a part.
-fn has_sixteen(end: usize, at: usize) -> bool
-    ensures { result ≡ leb 16 (end - at) }
+// How many characters at the front of a part have no line feed, as far as sixteen at a time have none.
+fn skip(part: &[u8]) -> usize
+    ensures within { result ≤ length part.now }
+    ensures passed { plain (take result part.now) ≡ take result part.now }
 {
-    if at >= end {
-        return false;
+    let times = part.len() / STRIDE;
+    for k in 0..times {
+        let n = k * STRIDE;
+        if !clear(&part[n..n + STRIDE]) {
+            return n;
+        }
     }
-    end - at >= STRIDE
+    times * STRIDE
 }
 
-// As far as sixteen characters at a time have no line feed.
-fn skip(part: &[u8], at: usize) -> usize
-    ensures { result + length (plain (drop result part.now)) ≡ at + length (plain (drop at part.now)) }
+// How many characters of a part stand before its first line feed: all of them where it has none.
+fn ahead(part: &[u8]) -> usize
+    ensures { result ≡ length (plain part.now) }
 {
-    let mut i = at;
-    while has_sixteen(part.len(), i) {
-        if !clear(part, i) {
-            return i;
-        }
-        i += STRIDE;
-    }
-    i
+    part.iter()
+        .position(|c| *c == LINE_FEED)
+        .unwrap_or(part.len())
 }
 
 // The place of the next line feed from a place on, or the end of the part where it has none.
 pub fn find(part: &[u8], at: usize) -> usize
     ensures { FindPromise part.now at result }
 {
-    let mut i = skip(part, at);
-    while i < part.len() {
-        if part[i] == LINE_FEED {
-            return i;
-        }
-        i += 1;
+    if at >= part.len() {
+        return at;
     }
-    i
+    let rest = &part[at..];
+    let passed = skip(rest);
+    at + passed + ahead(&rest[passed..])
 }

@@ -1,12 +1,8 @@
--- What each turn of `lines::skip` keeps: from the place that was come to the line ends where it does.
+-- What each turn of `lines::skip` keeps: none of the characters so far is a line feed.
 -- Assumes nothing.
-use Prim.Native.Nat.{◌-◌}
-use lib.ListN.{length}
-use Rattle.lines.proofs.Finding.{Leads}
+use Rattle.std.proofs.Common.{◌≡◌, ◌*◌, take}
+use Rattle.lines.specs.Lines.{plain}
 use Rattle.lines.proofs.skip.Given as goal
 
-abbrev pub invariant-loop-at : goal.invariant-loop-at
-invariant-loop-at l = Leads l.part l.at l.i
-
-abbrev pub decreases-loop-at : goal.decreases-loop-at
-decreases-loop-at l = length l.part - l.i
+abbrev pub invariant-loop-k : goal.invariant-loop-k
+invariant-loop-k l = plain (take (l.k * 16) l.part) ≡ take (l.k * 16) l.part
