@@ -1,18 +1,18 @@
 -- The answer of a key line: by its first fault, or by what its bytes say at the front of the space that they were decoded into.
 -- Assumes nothing.
-use mathlib.Core.Path.{◌≡◌, refl, ap, ap₂, sym, ◌∙◌}
-use mathlib.Core.List.{List, ◌++◌}
-use Prim.Native.Nat.{ℕ, ◌+◌, ◌≤◌}
-use native.Mathlib.Omega.{arith}
-use lib.ListN.{length, get_or, take, drop, length-drop, get_or-append}
-use lib.Seq.{take-append-le, drop-append-le}
-use borrow.Author.Tests.{eq-eqb, ne_eqb}
+use Rattle.std.proofs.Common.{◌≡◌, refl, ap, ap₂, sym, ◌∙◌, Ok, Err, List, ◌++◌, ℕ, ◌+◌, ◌≤◌, arith, length, get_or, take, drop}
+use Rattle.std.proofs.Common.{length-drop, eq-eqb, ne_eqb}
+use Rattle.std.proofs.Math.ListN.{get_or-append}
+use Rattle.std.proofs.Math.Seq.{take-append-le, drop-append-le}
 use Rattle.laws.proofs.Fault.{unless_holds, unless_fails, fault_found, fault_pass, fault_last}
 use Rattle.block.specs.Block.{Block, sixteen}
 use Rattle.block.proofs.Sixteen.{sixteen_whole}
-use Rattle.keys.specs.declared.KeyAnswer.{KeyAnswer}
+use Rattle.numbers.specs.declared.Refusal.{Refusal}
+use Rattle.numbers.specs.Told.{number_of}
+use Rattle.numbers.proofs.Number.{not_done}
+use Rattle.keys.specs.Told.{KeyAnswer, told_keys}
 use Rattle.keys.specs.Answer.{refused_keys, key_answer}
-use Rattle.hex_line.specs.declared.LineAnswer.{LineAnswer}
+use Rattle.hex_line.specs.Told.{LineAnswer, told_line}
 use Rattle.hex_line.specs.Answer.{decode_number}
 use Rattle.hex_line.specs.Line.{decoded}
 use Rattle.hex_line.specs.Promise.{DecodePromise}
@@ -59,20 +59,25 @@ module _ (line : List ℕ) where
       ∙ fault_pass _ (unless_holds 8 (eq-eqb (length line) 68 h)) refl (fault_last refl)
 
   -- refused: the answer is the refusal
-  pub read_refused : {k : ℕ} {r : KeyAnswer} → k ≡ key_line_number line → (k ≡ 0 → ⊥) → r ≡ refused_keys k → r ≡ key_line_answer line
-  unfolding key_line_answer
-  read_refused e h q = q ∙ rw (ne_eqb (key_line_number line) 0 (λ z. h (e ∙ z))) (ap refused_keys e)
+  pub read_refused : (why : Refusal) → number_of why ≡ key_line_number line → told_keys (Err why) ≡ key_line_answer line
+  unfolding told_keys refused_keys key_line_answer
+  read_refused why e = rw (ne_eqb (key_line_number line) 0 (λ z. not_done why (e ∙ z))) (ap refused_keys e)
 
   -- decoded into a space: the refusal of decoding it, or what its bytes say
-  module _ (space : List ℕ) {a : LineAnswer} {after : List ℕ} (room : 255 ≤ length space) (h : length line ≡ 68)
-      (p : DecodePromise line space a after) where
-    pub number_read : a.number ≡ key_line_number line
-    number_read = number_is line space p ∙ number_decoded (length space) room h
+  module _ (space : List ℕ) {after : List ℕ} (room : 255 ≤ length space) (h : length line ≡ 68) where
+    number_read : {a : LineAnswer} → DecodePromise line space a after → a.number ≡ key_line_number line
+    number_read p = number_is line space p ∙ number_decoded (length space) room h
 
-    pub read_said : {r : KeyAnswer} → a.number ≡ 0 → r ≡ said_keys after → r ≡ key_line_answer line
-    unfolding key_line_answer
-    read_said z q =
-        let w = is_written line space p z in
+    pub read_unsaid : (why : Refusal) → DecodePromise line space (told_line (Err why)) after
+        → told_keys (Err why) ≡ key_line_answer line
+    unfolding told_line
+    read_unsaid why p = read_refused why (number_read p)
+
+    pub read_said : (n : ℕ) {r : KeyAnswer} → DecodePromise line space (told_line (Ok n)) after → r ≡ said_keys after
+        → r ≡ key_line_answer line
+    unfolding told_line key_line_answer
+    read_said n p q =
+        let w = is_written line space p refl in
         let size : 34 ≤ length (decoded line) = omega (arith, decoded_length line) in
         q ∙ ap said_keys w.laid ∙ said_front (decoded line) (drop (length (decoded line)) space) size
-        ∙ rw (eq-eqb (key_line_number line) 0 (sym number_read ∙ z))
+        ∙ rw (eq-eqb (key_line_number line) 0 (sym (number_read p)))

@@ -1,15 +1,16 @@
 // The key line: order, tag length in bits, K and L, in hexadecimal, 68 characters. It is the first line
 // that the checking program reads.
 //
-//     let made = keyline::read(&line);    // answers as the key call does; 8 or 9 where it is no key line
+//     let made = keyline::read(&line)?;    // or why the key call refuses it, or that it is no key line
 #![tactic(auto)]
 
 ghost use Rattle.std.specs.Prelude.{◌≡◌};
+ghost use Rattle.keys.specs.Told.{told_keys};
 ghost use Rattle.keyline.specs.KeyLine.{said_keys};
 ghost use Rattle.keyline.specs.Promise.{ReadPromise};
 
-use keys::KeyAnswer;
-use numbers::{BAD_LENGTH, DONE};
+use keys::Made;
+use numbers::Refusal;
 
 // A key line has this many characters: two for the order, two for the tag length, 32 for each key.
 const LENGTH: usize = 68;
@@ -21,8 +22,8 @@ const L_AT: usize = 18;
 
 // The key call on what the bytes of a key line say. Order 00 and tag length 00 are no refusals: the
 // key call says what they mean.
-fn said(bytes: [u8; 255]) -> KeyAnswer
-    ensures { result ≡ said_keys bytes }
+fn said(bytes: [u8; 255]) -> Result<Made, Refusal>
+    ensures { told_keys result ≡ said_keys bytes }
 {
     let k = block::read(&bytes, K_AT);
     let l = block::read(&bytes, L_AT);
@@ -30,16 +31,13 @@ fn said(bytes: [u8; 255]) -> KeyAnswer
 }
 
 // The key set of a key line.
-pub fn read(line: &[u8]) -> KeyAnswer
-    ensures { ReadPromise line.now result }
+pub fn read(line: &[u8]) -> Result<Made, Refusal>
+    ensures { ReadPromise line.now (told_keys result) }
 {
     if line.len() != LENGTH {
-        return keys::refused(BAD_LENGTH);
+        return Err(Refusal::BadLength);
     }
     let mut space = [0u8; 255];
-    let d = hex_line::decode(line, &mut space);
-    if d.number != DONE {
-        return keys::refused(d.number);
-    }
+    hex_line::decode(line, &mut space)?;
     said(space)
 }

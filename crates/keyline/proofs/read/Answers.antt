@@ -1,22 +1,19 @@
 -- `keyline::read` meets its contract. By the first fault of the line.
 -- Assumes nothing.
-use native.Mathlib.Omega.{arith}
-use Rattle.keyline.proofs.Answered.{number_length, read_refused, number_read, read_said}
-use borrow.Author.Rules.{rules}
+use Rattle.std.proofs.Common.{rules}
+use Rattle.std.proofs.lemmas.Result.{err_from_is_err_and}
+use Rattle.numbers.specs.Told.{number_of}
+use Rattle.keyline.proofs.Answered.{number_length, read_refused, read_unsaid, read_said}
 use Rattle.keyline.proofs.read.Goals as goal
 
 pub returns-then-line-ne-LENGTH : goal.returns-then-line-ne-LENGTH
-returns-then-line-ne-LENGTH c =
-    let line = c.args.line.now in
-    read_refused line (number_length line (search rules)) (λ z. omega arith) c.refused.ensures
+unfolding number_of
+returns-then-line-ne-LENGTH c = read_refused _ _ (number_length c.args.line.now (search rules))
 
-pub returns-then-d-ne-DONE : goal.returns-then-d-ne-DONE
-returns-then-d-ne-DONE c =
-    let line = c.args.line.now in
-    read_refused line (number_read line _ (search rules) (search rules) c.decode-d.ensures) c.if-d-ne-DONE.true
-    c.refused-then-d-ne-DONE.ensures
+pub returns-in_err-decode : goal.returns-in_err-decode
+returns-in_err-decode c =
+    let p = err_from_is_err_and c.from_residual.result c.from_residual.ensures.1 in
+    rw (p.1, p.2) (read_unsaid c.args.line.now _ (search rules) (search rules) _ c.in_err-decode.ensures)
 
 pub returns : goal.returns
-returns c =
-    let line = c.args.line.now in
-    read_said line _ (search rules) (search rules) c.decode-d.ensures c.if-d-ne-DONE.false c.said.ensures
+returns c = read_said c.args.line.now _ (search rules) (search rules) _ c.in_ok-decode.ensures c.said.ensures

@@ -1,7 +1,7 @@
 -- `keyline::said` meets its contract.
 -- Assumes nothing.
 use Rattle.keyline.proofs.Answered.{said_by}
-use borrow.Author.Rules.{rules}
+use Rattle.std.proofs.Common.{rules}
 use Rattle.keyline.proofs.said.Goals as goal
 
 pub returns : goal.returns
