@@ -23,7 +23,13 @@ use Rattle.engine.proofs.Together.{engine_sealed}
 use Rattle.tag.specs.Fault.{tag_number}
 use Rattle.tag.specs.Tag.{tag_bytes}
 use Rattle.tag.specs.Answer.{tagged_by, refused_tag, made_tag, checked_tag, making_answer, making_slice, checking_answer}
-use Rattle.tag.specs.declared.TagAnswer.{TagAnswer}
+use Rattle.std.specs.Prelude.{Ok, Err}
+use Rattle.numbers.specs.declared.Refusal.{Refusal}
+use Rattle.numbers.specs.Told.{number, number_of}
+use Rattle.numbers.proofs.Number.{not_done}
+use Rattle.tag.specs.declared.Checked.{Checked}
+use Rattle.tag.specs.declared.Counts.{Counts}
+use Rattle.tag.specs.Told.{TagAnswer, told_made, told_checked}
 use Rattle.tag.specs.Inner.{Sealed}
 use Rattle.tag.specs.Promise.{WritePromise, ComparePromise}
 use Rattle.tag.proofs.Number.{suited}
@@ -89,15 +95,30 @@ module _ {n n' : ℕ} {t t' : Tagged} (e : n ≡ n') (q : n ≡ 0 → t ≡ t') 
   checking_same p l =
       rw (← e) (pick_same n (checked_tag p l t) (checked_tag p l t') (refused_tag n) (λ z. ap (checked_tag p l) (q z)))
 
+-- a refusal is told by the number of the fault that was found
+module _ (n : ℕ) (t : Tagged) (why : Refusal) (e : number {A = Unit {0}} (Err why) ≡ n) where
+  pub making_err : told_made (Err why) ≡ making_answer n t
+  unfolding number told_made refused_tag
+  making_err = making_refused n t e (not_done why)
+
+  pub making_stays : (l : List ℕ) → l ≡ making_slice n t l
+  unfolding number
+  making_stays l = making_left n t l e (not_done why)
+
+  pub checking_err : (p : ℕ) (l : List ℕ) (r : Checked) → told_checked r ≡ refused_tag (number_of why)
+      → told_checked r ≡ checking_answer n p l t
+  unfolding number
+  checking_err p l r q = q ∙ checking_refused n t p l e (not_done why)
+
 -- the tag of a chain after the closing step, of p bits, in a slice l
 module _ (p : ℕ) (c : Chain) (l : List ℕ) where
   -- made
-  pub slice_made : {s : List ℕ} → tag_number p (length l) ≡ 0 → s ≡ bytes (cut p c.value)
-      → WritePromise c p l (record { number = 0; whole = c.whole; four = c.four }) s
-  unfolding made_tag tagged_by
-  slice_made z e =
+  pub slice_made : {s : List ℕ} → tag_number p (length l) ≡ 0 → (counts : Counts) → counts ≡ record { whole = c.whole; four = c.four }
+      → s ≡ bytes (cut p c.value) → WritePromise c p l (told_made (Ok counts)) s
+  unfolding made_tag tagged_by told_made
+  slice_made z counts k e =
       let n = tag_number p (length l) in
-      (sym (making_is n (tagged_by p c) z), e ∙ sym (slice_is n (tagged_by p c) l z))
+      (ap (λ (x : Counts). told_made (Ok x)) k ∙ sym (making_is n (tagged_by p c) z), e ∙ sym (slice_is n (tagged_by p c) l z))
 
   -- under a call without a fault of its own, for a tag length and a slice that it has judged
   module _ (n : ℕ) (t : Tagged) (e : n ≡ 0) (w : Within 128 p) (h : length l ≡ tag_bytes p) (s : Sealed p t c) where

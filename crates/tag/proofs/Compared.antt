@@ -14,6 +14,11 @@ use Rattle.block.specs.Bits.{bits, bytes}
 use Rattle.block.specs.Block.{cut, sixteen}
 use Rattle.block.proofs.Sixteen.{sixteen_length, sixteen_front, sixteen_once}
 use Rattle.chain.specs.declared.Chain.{Chain}
+use Rattle.std.specs.Prelude.{Result}
+use Rattle.numbers.specs.declared.Refusal.{Refusal}
+use Rattle.numbers.specs.Told.{number}
+use Rattle.tag.specs.declared.Counts.{Counts}
+use Rattle.tag.specs.Told.{told_checked}
 use Rattle.numbers.specs.Numbers.{done, tag_differs}
 use Rattle.pcmac.specs.Tagver.{accepted}
 use Rattle.pcmac.proofs.Tagver.{accepted_bytes}
@@ -46,11 +51,12 @@ accepted_blocks p l x b n h m =
     (λ t. eq-eqb _ 0 (exactly.1 (ap sixteen (spelt.0 t))))
 
 -- the answer, by what was gathered of the two blocks; that the slice holds bytes is known of the block that was read of it
-pub compared : (c : Chain) (p : ℕ) (l a b : List ℕ) (d : ℕ) (t : Bool) → eqb d 0 ≡ t → d ≡ differences 16 a b → a ≡ sixteen l
-    → b ≡ sixteen (bytes (cut p c.value)) → tag_number p (length l) ≡ 0 → Bytes a → length c.value ≡ 16
-    → ComparePromise c p l (record { number = pick t done tag_differs; whole = c.whole; four = c.four })
-unfolding checked_tag tagged_by
-compared c p l a b d t q e f g none h m =
+pub compared : (c : Chain) (p : ℕ) (l a b : List ℕ) (d : ℕ) (t : Bool) (o : Result Unit Refusal) → number o ≡ pick t done tag_differs
+    → eqb d 0 ≡ t → d ≡ differences 16 a b → a ≡ sixteen l → b ≡ sixteen (bytes (cut p c.value)) → tag_number p (length l) ≡ 0 → Bytes a
+    → length c.value ≡ 16 → (counts : Counts) → counts ≡ record { whole = c.whole; four = c.four }
+    → ComparePromise c p l (told_checked (record { outcome = o; counts = counts }))
+unfolding checked_tag tagged_by told_checked
+compared c p l a b d t o v q e f g none h m counts k =
     let suit = suits p (length l) none in
     let small : Bytes l =
     rw (f, sixteen_front l (omega (arith, suit.size, suit.bits.high))) at (bytes_take (length l) a h) in
@@ -58,6 +64,8 @@ compared c p l a b d t q e f g none h m =
     sym q ∙ ap (λ (z : ℕ). eqb z 0) (e ∙ ap₂ (differences 16) f g)
     ∙ accepted_blocks p l c.value suit.bits.high suit.size small m
     in
-    let answer : record { number = pick t done tag_differs; whole = c.whole; four = c.four } ≡ checked_tag p l (tagged_by p c) =
-    ap (λ (z : Bool). record { number = pick z done tag_differs; whole = c.whole; four = c.four }) s in
+    let told : number o ≡ pick (accepted p (bits l) (cut p c.value)) done tag_differs =
+    v ∙ ap (λ (z : Bool). pick z done tag_differs) s in
+    let answer : record { number = number o; whole = counts.whole; four = counts.four } ≡ checked_tag p l (tagged_by p c) =
+    λ i. record { number = told i; whole = (k i).whole; four = (k i).four } in
     answer ∙ sym (checking_is (tag_number p (length l)) (tagged_by p c) p l none)

@@ -3,7 +3,7 @@
 use mathlib.Core.Path.{◌≡◌, refl, ap, ap₂, sym, ◌∙◌}
 use mathlib.Core.Logic.{⊎_elim}
 use mathlib.Core.List.{List}
-use Prim.Native.Nat.{ℕ, zero, suc, ◌+◌, ◌≤◌, ◌<◌}
+use Prim.Native.Nat.{ℕ, zero, suc, ◌+◌, ◌<◌}
 use native.Mathlib.Nat.{not-suc-le-zero, le_of_suc-le-suc, eq-or-lt_of_le}
 use native.Mathlib.Numerals.{add-one}
 use native.Mathlib.Omega.{arith}
@@ -40,23 +40,8 @@ no_difference {n} x y a b = (
   λ e. ap (λ (z : List ℕ). differences n x z) (sym e) ∙ none_of_itself n x,
 )
 
--- the loop after i turns: d is what the first i bytes differ in
-pub record Gathered (x y : List ℕ) (d i : ℕ) : Type 0 where
-  pub within : i ≤ 16
-  pub so_far : d ≡ differences i x y
-
-pub gathered_none : (x y : List ℕ) → Gathered x y 0 0
+-- one byte more
+pub gathered_more : (x y : List ℕ) (i : ℕ) {d : ℕ} → d ≡ differences i x y
+    → bit_or d (bit_xor (get_or x i 0) (get_or y i 0)) ≡ differences (i + 1) x y
 unfolding differences
-gathered_none x y = record { within = omega arith; so_far = refl }
-
-pub gathered_more : {x y : List ℕ} {d i : ℕ} → Gathered x y d i → i < 16
-    → Gathered x y (bit_or d (bit_xor (get_or x i 0) (get_or y i 0))) (i + 1)
-unfolding differences
-gathered_more {x} {y} {d} {i} v h = record {
-  within = omega arith;
-  so_far = rw add-one (ap (λ (z : ℕ). bit_or z (bit_xor (get_or x i 0) (get_or y i 0))) v.so_far);
-}
-
-pub gathered_all : {x y : List ℕ} {d i : ℕ} → Gathered x y d i → 16 ≤ i → d ≡ differences 16 x y
-gathered_all {x} {y} {d} {i} v h =
-    let e : i ≡ 16 = omega (arith, v.within) in v.so_far ∙ ap (λ (z : ℕ). differences z x y) e
+gathered_more x y i e = rw add-one (ap (λ (z : ℕ). bit_or z (bit_xor (get_or x i 0) (get_or y i 0))) e)

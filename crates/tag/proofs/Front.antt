@@ -4,10 +4,9 @@ use mathlib.Core.Path.{◌≡◌, refl, ap, sym, ◌∙◌}
 use mathlib.Core.Logic.{⊎_elim}
 use mathlib.Core.List.{List, [], ◌∷◌, ◌++◌}
 use Prim.Native.Nat.{ℕ, zero, suc, ◌+◌, ◌-◌, ◌*◌, ◌/◌, ◌%◌, ◌^◌, ◌≤◌, ◌<◌}
-use native.Mathlib.Nat.{not-suc-le-zero, le_of_suc-le-suc, div-add-mod'}
+use native.Mathlib.Nat.{not-suc-le-zero, le_of_suc-le-suc}
 use native.Mathlib.Omega.{arith}
 use lib.ListN.{length, get_or, take, replicate}
-use lib.Pow.{pow_pos}
 use lib.Seq.{ext_get_or, take_all, take-append-le, take-append-add}
 use Rattle.laws.specs.Agree.{table}
 use Rattle.laws.proofs.Agree.{agreed, table_at}
@@ -29,18 +28,6 @@ front_none k b e h = rw e (omega arith)
 
 pub front_whole : (k b : ℕ) → 8 ≤ k → front k b ≡ b
 front_whole k b h = let e : 8 - k ≡ 0 = omega arith in rw e (omega arith)
-
--- a one moved up by fewer than eight places stays in its byte
-pub one_moved : (s : ℕ) → s < 8 → 1 * 2 ^ s % 256 ≡ 2 ^ s
-one_moved s h = agreed (λ i. 1 * 2 ^ i % 256) (λ i. 2 ^ i) 8 tt s h
-
--- so that it is no zero
-pub one_positive : (s : ℕ) → s < 8 → 0 < 1 * 2 ^ s % 256
-one_positive s h = rw (one_moved s h) (pow_pos s)
-
--- a remainder is no more than the number
-pub rest_within : (b n : ℕ) → b % n ≤ b
-rest_within b n = omega (arith, div-add-mod' b n)
 
 -- k bits of a byte, filled up with zeros
 topped : ℕ → ℕ → ℕ

@@ -7,6 +7,10 @@ use lib.Dec.{eqb}
 use borrow.Author.Tests.{eqb-true, eq-eqb, ne_eqb}
 use Rattle.laws.proofs.Fault.{unless_holds, unless_fails, unless_none, fault_found, fault_pass, fault_last, none_of_two}
 use Rattle.laws.proofs.UpTo.{Within, up_to_is}
+use Rattle.std.specs.Prelude.{Err}
+use Rattle.numbers.specs.declared.Refusal.{Refusal}
+use Rattle.numbers.specs.Told.{number}
+use Rattle.numbers.proofs.Number.{not_done}
 use Rattle.keys.specs.SetNumber.{bits_number}
 use Rattle.keys.proofs.SetNumber.{bits_none, bits_within}
 use Rattle.tag.specs.Fault.{size_number, tag_number}
@@ -28,14 +32,14 @@ module _ (p n : ℕ) where
   other_size h = unless_fails 3 (ne_eqb n (tag_bytes p) h)
 
   -- there is no tag of p bits
-  pub no_tag : {b : ℕ} → b ≡ bits_number p → (b ≡ 0 → ⊥) → b ≡ tag_number p n
-  unfolding tag_number
-  no_tag e h = fault_found (size_number p n ∷ []) e h
+  pub no_tag : (why : Refusal) → number {A = Unit {0}} (Err why) ≡ bits_number p → number {A = Unit {0}} (Err why) ≡ tag_number p n
+  unfolding tag_number number
+  no_tag why e = fault_found (size_number p n ∷ []) e (not_done why)
 
   -- there is, so it is for the slice to say
-  pub some_tag : {b : ℕ} → b ≡ bits_number p → b ≡ 0 → {r : ℕ} → r ≡ size_number p n → r ≡ tag_number p n
+  pub some_tag : {b : ℕ} → 0 ≡ bits_number p → b ≡ size_number p n → b ≡ tag_number p n
   unfolding tag_number
-  some_tag e z f = fault_pass (size_number p n ∷ []) e z (fault_last f)
+  some_tag e f = fault_pass (size_number p n ∷ []) e refl (fault_last f)
 
 -- a tag of p bits in a slice of n bytes
 pub record Suits (p n : ℕ) : Type 0 where
@@ -51,4 +55,4 @@ suits p n e =
 
 -- and is what such a tag and slice give
 pub suited : (p n : ℕ) → Within 128 p → n ≡ tag_bytes p → tag_number p n ≡ 0
-suited p n w h = sym (some_tag p n (bits_none p (up_to_is 128 p w.low w.high)) refl (fits_size p n h))
+suited p n w h = sym (some_tag p n (bits_none p (up_to_is 128 p w.low w.high)) (fits_size p n h))

@@ -4,3 +4,4 @@ pub mod Fault
 pub mod Inner
 pub mod Promise
 pub mod Tag
+pub mod Told

@@ -3,21 +3,24 @@
 // bits of a tag's last byte are written as zeros, and a received tag has them zero, or it differs.
 //
 //     let n = tag::size(60);                            // 8 bytes
-//     let answer = tag::write(made, 60, &mut space);    // number 0, and the counts
-//     let verdict = tag::compare(made, 60, &received);  // number 0, or 7 where the tag differs
-//     let none = tag::compare(made, 0, &received);      // number 2: there is no such tag
+//     let counts = tag::write(made, 60, &mut space)?;   // or why no tag is written
+//     let checked = tag::compare(made, 60, &received);  // its outcome is TagDiffers where the tag differs
+//     let none = tag::compare(made, 0, &received);      // BadTagLength: there is no such tag
 #![tactic(auto)]
 
-ghost use Rattle.std.specs.Prelude.{◌≡◌, ◌-◌, ◌*◌, ◌%◌, ◌^◌, ◌≤◌, length, take};
+ghost use Rattle.std.specs.Prelude.{◌≡◌, ◌-◌, ◌*◌, ◌%◌, ◌^◌, ◌<◌};
+ghost use Rattle.numbers.specs.Told.{number, number_of};
 ghost use Rattle.block.specs.Bits.{bytes};
 ghost use Rattle.block.specs.Block.{cut, sixteen};
 ghost use Rattle.tag.specs.Difference.{differences};
 ghost use Rattle.tag.specs.Fault.{tag_number};
+ghost use Rattle.tag.specs.Told.{told_made, told_checked};
 ghost use Rattle.tag.specs.Promise.{SizePromise, RefusedPromise, SizeFaultPromise, WritePromise, ComparePromise};
 
 use chain::Chain;
 use keys::LONGEST_TAG;
-use numbers::{BAD_SIZE, DONE, TAG_DIFFERS};
+use numbers::Refusal;
+use std::array;
 
 // In what two tags differ, each at the front of a block with zeros behind its bytes. Each of the sixteen
 // bytes is looked at, whatever those before it gave, and the bits in which it differs are gathered; what
@@ -27,70 +30,80 @@ use numbers::{BAD_SIZE, DONE, TAG_DIFFERS};
 fn differences(x: [u8; 16], y: [u8; 16]) -> u8
     ensures { result ≡ differences 16 x y }
 {
-    let mut gathered: u8 = 0;
-    let mut at: usize = 0;
-    while at < 16 {
+    let mut gathered = 0;
+    for at in 0..16 {
         gathered |= x[at] ^ y[at];
-        at += 1;
     }
     gathered
 }
 
-// What a call that makes or checks a tag answers: its number, and the steps of each kind.
+// The steps of each kind that a call took.
 #[derive(Clone, Copy)]
-pub struct TagAnswer {
-    pub number: u8,
+pub struct Counts {
     pub whole: usize,
     pub four: usize,
+}
+
+impl From<Chain> for Counts {
+    ghost from_gives = { λ made counts. counts ≡ record { whole = made.whole; four = made.four } };
+
+    fn from(made: Chain) -> Counts {
+        Counts {
+            whole: made.whole,
+            four: made.four,
+        }
+    }
+}
+
+// The verdict on a received tag, and the steps that it took: a tag that differs has them too.
+#[derive(Clone, Copy)]
+pub struct Checked {
+    pub outcome: Result<(), Refusal>,
+    pub counts: Counts,
 }
 
 // How many bytes a tag of so many bits occupies.
 pub fn size(bits: u8) -> usize
     ensures { SizePromise bits result }
 {
-    (bits as usize + 7) / 8
+    (bits as usize).div_ceil(8)
 }
 
-// A refusal carries no counts.
-pub fn refused(number: u8) -> TagAnswer
-    ensures { RefusedPromise number result }
+// The verdict where nothing was checked: why, and no steps.
+pub fn unchecked(why: Refusal) -> Checked
+    ensures { RefusedPromise (number_of why) (told_checked result) }
 {
-    TagAnswer {
-        number,
-        whole: 0,
-        four: 0,
+    Checked {
+        outcome: Err(why),
+        counts: Counts { whole: 0, four: 0 },
     }
 }
 
 // 3: a slice of n bytes is not of just the bytes of a tag of so many bits.
-pub fn size_fault(bits: u8, n: usize) -> u8
-    ensures { SizeFaultPromise bits n result }
+pub fn size_fault(bits: u8, n: usize) -> Result<(), Refusal>
+    ensures { SizeFaultPromise bits n (number result) }
 {
-    if n == size(bits) { DONE } else { BAD_SIZE }
+    if n == size(bits) {
+        Ok(())
+    } else {
+        Err(Refusal::BadSize)
+    }
 }
 
 // The first fault of a tag length and of a tag slice of n bytes.
-fn fault(bits: u8, n: usize) -> u8
-    ensures { result ≡ tag_number bits n }
+fn fault(bits: u8, n: usize) -> Result<(), Refusal>
+    ensures { number result ≡ tag_number bits n }
 {
-    let b = keys::bits_fault(bits);
-    if b != DONE {
-        return b;
-    }
+    keys::bits_fault(bits)?;
     size_fault(bits, n)
 }
 
 // How many of p bits stand in byte i of a block or after it.
 fn bits_from(p: u8, i: usize) -> usize
+    requires { i < 16 }
     ensures { result ≡ p - 8 * i }
 {
-    let n = p as usize;
-    if i < 32 {
-        if 8 * i < n {
-            return n - 8 * i;
-        }
-    }
-    0
+    (p as usize).saturating_sub(8 * i)
 }
 
 // The first k bits of a byte, and then zeros; all of it where k is 8 or more.
@@ -114,59 +127,35 @@ fn kept(x: [u8; 16], p: u8) -> [u8; 16]
     if p as usize >= LONGEST_TAG {
         return x;
     }
-    let mut r = [0u8; 16];
-    let mut i: usize = 0;
-    while i < 16 {
-        r[i] = kept_byte(x[i], bits_from(p, i));
-        i += 1;
-    }
-    r
-}
-
-// The first bytes of a block, as many as a slice has.
-fn put(x: [u8; 16], slice: &mut [u8])
-    requires { length slice.old ≤ 16 }
-    ensures { slice.new ≡ take (length slice.old) x }
-{
-    let mut i: usize = 0;
-    while i < slice.len() {
-        slice[i] = x[i];
-        i += 1;
-    }
+    array::from_fn(|i| kept_byte(x[i], bits_from(p, i)))
 }
 
 // The tag into its slice: the first p bits of the chain's value after the closing step.
-pub fn write(made: Chain, bits: u8, slice: &mut [u8]) -> TagAnswer
-    ensures { WritePromise made bits slice.old result slice.new }
+pub fn write(made: Chain, bits: u8, slice: &mut [u8]) -> Result<Counts, Refusal>
+    ensures { WritePromise made bits slice.old (told_made result) slice.new }
 {
-    let number = fault(bits, slice.len());
-    if number != DONE {
-        return refused(number);
-    }
-    let value = made.value;
-    put(kept(value, bits), slice);
-    TagAnswer {
-        number: DONE,
-        whole: made.whole,
-        four: made.four,
-    }
+    fault(bits, slice.len())?;
+    let tag = kept(made.value, bits);
+    slice.copy_from_slice(&tag[..slice.len()]);
+    Ok(Counts::from(made))
 }
 
 // The verdict on a received tag. It stands at the front of a block, zeros behind it, and so does the tag
 // that was made (`kept`). Nothing is masked on the received side: a spare bit that is set differs as any
 // other bit does, so that a tag has one spelling.
-pub fn compare(made: Chain, bits: u8, received: &[u8]) -> TagAnswer
-    ensures { ComparePromise made bits received.now result }
+pub fn compare(made: Chain, bits: u8, received: &[u8]) -> Checked
+    ensures { ComparePromise made bits received.now (told_checked result) }
 {
-    let number = fault(bits, received.len());
-    if number != DONE {
-        return refused(number);
+    if let Err(why) = fault(bits, received.len()) {
+        return unchecked(why);
     }
-    let value = made.value;
-    let differing = differences(block::read(received, 0), kept(value, bits));
-    TagAnswer {
-        number: if differing == 0 { DONE } else { TAG_DIFFERS },
-        whole: made.whole,
-        four: made.four,
+    let differing = differences(block::read(received, 0), kept(made.value, bits));
+    Checked {
+        outcome: if differing == 0 {
+            Ok(())
+        } else {
+            Err(Refusal::TagDiffers)
+        },
+        counts: Counts::from(made),
     }
 }

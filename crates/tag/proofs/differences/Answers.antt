@@ -1,15 +1,17 @@
 -- `tag::differences` meets its contract. After so many turns what the first bytes differ in is gathered. First comes what a comparison
 -- that ends too early fails at: at the end all sixteen have been gathered.
 -- Assumes nothing.
-use Rattle.tag.proofs.Difference.{gathered_none, gathered_more, gathered_all}
-use borrow.Author.Rules.{rules}
+use Rattle.std.proofs.Common.{rules, refl}
+use Rattle.tag.specs.Difference.{differences}
+use Rattle.tag.proofs.Difference.{gathered_more}
 use Rattle.tag.proofs.differences.Goals as goal
 
 pub returns : goal.returns
-returns c = gathered_all c.loop-at.invariant (search rules)
+returns c = search rules
 
 pub loop-at-init : goal.loop-at-init
-loop-at-init c = gathered_none _ _
+unfolding differences
+loop-at-init c = refl
 
 pub loop-at-preserved : goal.loop-at-preserved
-loop-at-preserved c = gathered_more c.loop-at.invariant (search rules)
+loop-at-preserved c = gathered_more _ _ _ c.loop-at.invariant

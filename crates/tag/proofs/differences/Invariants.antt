@@ -1,9 +1,7 @@
-use Prim.Native.Nat.{◌-◌}
-use Rattle.tag.proofs.Difference.{Gathered}
+-- What the bytes before the next one differ in is gathered.
+use Rattle.std.proofs.Common.{◌≡◌}
+use Rattle.tag.specs.Difference.{differences}
 use Rattle.tag.proofs.differences.Given as goal
 
 abbrev pub invariant-loop-at : goal.invariant-loop-at
-invariant-loop-at l = Gathered l.x l.y l.gathered l.at
-
-abbrev pub decreases-loop-at : goal.decreases-loop-at
-decreases-loop-at l = 16 - l.at
+invariant-loop-at l = l.gathered ≡ differences l.at l.x l.y
