@@ -1,16 +1,9 @@
 -- Hexadecimal both ways: decoding what was encoded gives the bytes, encoding what a line decodes to gives the line, and what is decoded
 -- is bytes, below 256; how long each is, and what stands where.
 -- Assumes nothing.
-use mathlib.Core.Path.{◌≡◌, refl, ap, ap₂, sym, ◌∙◌}
-use mathlib.Core.Bool.{true}
-use mathlib.Core.Logic.{⊎_elim}
-use mathlib.Core.List.{List, [], ◌∷◌, ◌++◌}
-use Prim.Native.Nat.{ℕ, zero, suc, ◌+◌, ◌*◌, ◌/◌, ◌%◌, ◌≤◌, ◌<◌}
-use native.Mathlib.Nat.{not-suc-le-zero, le_of_suc-le-suc}
-use native.Mathlib.Omega.{arith}
-use lib.ListN.{length, get_or, get_or-eq_default}
-use lib.Seq.{ext_get_or}
-use borrow.Author.Tests.{eq-eqb}
+use Rattle.std.proofs.Common.{◌≡◌, refl, ap, ap₂, sym, ◌∙◌, true, ⊎_elim, List, [], ◌∷◌, ◌++◌, ℕ, zero, suc, ◌+◌, ◌*◌, ◌/◌, ◌%◌, ◌≤◌, ◌<◌}
+use Rattle.std.proofs.Common.{not-suc-le-zero, le_of_suc-le-suc, arith, length, get_or, ext_get_or, eq-eqb}
+use Rattle.std.proofs.Math.ListN.{get_or-eq_default}
 use Rattle.laws.proofs.Agree.{table_length, table_at}
 use Rattle.laws.proofs.Bytes.{Bytes}
 use Rattle.laws.proofs.Cases.{below_or_not}

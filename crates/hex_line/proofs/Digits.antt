@@ -1,20 +1,14 @@
 -- What a character stands for, and the character that stands for a value: each undoes the other, and the code reckons both. By tests over
 -- all 256 characters and over all 16 values.
 -- Assumes nothing.
-use mathlib.Core.Path.{◌≡◌, refl, ap, sym, ◌∙◌}
-use mathlib.Core.Bool.{Bool, true, false}
-use mathlib.Core.Logic.{⊎_elim}
-use Prim.Native.Nat.{ℕ, ◌+◌, ◌*◌, ◌/◌, ◌%◌, ◌≤◌, ◌<◌}
-use native.Mathlib.Omega.{arith}
-use lib.Bits.{bit_and, bit_or}
-use lib.Dec.{T, eqb, ltb}
+use Rattle.std.proofs.Common.{◌≡◌, refl, ap, sym, ◌∙◌, Bool, true, false, ⊎_elim, ℕ, ◌+◌, ◌*◌, ◌/◌, ◌%◌, ◌≤◌, ◌<◌, arith, bit_and, bit_or}
+use Rattle.std.proofs.Common.{T, eqb, ltb, le-leb, eq-eqb, ne_eqb, Option, None, Some}
 use mir.Val.{bool_byte}
-use borrow.Author.Tests.{le-leb, lt-leb, eq-eqb, ne_eqb}
+use borrow.Author.Tests.{lt-leb}
 use Rattle.laws.specs.Agree.{agree}
 use Rattle.laws.specs.Pick.{pick}
 use Rattle.laws.proofs.Agree.{agreed}
 use Rattle.laws.proofs.Cases.{below_or_not}
-use Rattle.std.specs.Prelude.{Option, None, Some}
 use Rattle.hex_line.specs.Digit.{digit_of, read_number, read_value, is_digit, value_of, character_of}
 use Rattle.hex_line.specs.Inner.{strange}
 

@@ -1,17 +1,8 @@
 -- Whether a line is pairs of digits: its faults gathered from its start, by one character more, to its end; and what it tells of each
 -- character.
 -- Assumes nothing.
-use mathlib.Core.Path.{◌≡◌, ap, ap₂, sym, ◌∙◌}
-use mathlib.Core.Bool.{true}
-use mathlib.Core.List.{List, [], ◌∷◌}
-use Prim.Native.Nat.{ℕ, zero, suc, ◌+◌, ◌%◌, ◌≤◌, ◌<◌}
-use native.Mathlib.Nat.{not-suc-le-zero, le_of_suc-le-suc}
-use native.Mathlib.Numerals.{add-one}
-use lib.Bits.{bit_or}
-use lib.Dec.{eqb}
-use lib.ListN.{length, get_or, take}
-use lib.Seq.{take_all}
-use borrow.Author.Tests.{eqb-true}
+use Rattle.std.proofs.Common.{◌≡◌, ap, ap₂, sym, ◌∙◌, true, List, [], ◌∷◌, ℕ, zero, suc, ◌+◌, ◌%◌, ◌≤◌, ◌<◌, not-suc-le-zero}
+use Rattle.std.proofs.Common.{le_of_suc-le-suc, add-one, bit_or, eqb, length, get_or, take, take_all, eqb-true}
 use Rattle.laws.specs.Agree.{both}
 use Rattle.laws.proofs.Both.{both_holds, both_true, both_assoc}
 use Rattle.laws.proofs.Or.{or_test}

@@ -1,12 +1,7 @@
 -- What decoding and encoding answer and write, by the first fault, or by what was laid in the space.
 -- Assumes nothing.
-use mathlib.Core.Path.{◌≡◌, refl, ap, sym, ◌∙◌}
-use mathlib.Core.List.{List, ◌++◌}
-use Prim.Native.Nat.{ℕ, ◌*◌, ◌≤◌, ◌<◌}
-use native.Mathlib.Omega.{arith}
-use lib.ListN.{length, drop}
-use borrow.Author.Tests.{le-leb, lt-leb, eq-eqb, ne_eqb}
-use Rattle.std.specs.Prelude.{Ok, Err}
+use Rattle.std.proofs.Common.{◌≡◌, refl, ap, sym, ◌∙◌, List, ◌++◌, ℕ, ◌*◌, ◌≤◌, ◌<◌, arith, length, drop, le-leb, eq-eqb, ne_eqb, Ok, Err}
+use borrow.Author.Tests.{lt-leb}
 use Rattle.laws.specs.Fault.{unless}
 use Rattle.laws.proofs.Fault.{unless_holds, unless_fails, fault_found, fault_pass, fault_last}
 use Rattle.numbers.specs.declared.Refusal.{Refusal}

@@ -1,16 +1,11 @@
 -- Wrong outcomes that the promises do not permit.
 -- Assumes nothing.
-use mathlib.Core.Path.{◌≡◌, ap, sym, ◌∙◌}
-use mathlib.Core.Bool.{false}
-use mathlib.Core.List.{List, [], ◌∷◌, ◌++◌}
-use Prim.Native.Nat.{ℕ, ◌+◌, ◌-◌, ◌*◌, ◌/◌, ◌%◌, ◌≤◌, ◌<◌}
-use native.Mathlib.Omega.{arith}
-use lib.ListN.{length, get_or, drop, get_or-append}
-use lib.Seq.{get_or-append-add, get_or-drop}
-use borrow.Author.Tests.{le-leb, lt-leb}
+use Rattle.std.proofs.Common.{◌≡◌, ap, sym, ◌∙◌, false, List, [], ◌∷◌, ◌++◌, ℕ, ◌+◌, ◌-◌, ◌*◌, ◌/◌, ◌%◌, ◌≤◌, ◌<◌, arith, length, get_or}
+use Rattle.std.proofs.Common.{drop, get_or-append-add, get_or-drop, le-leb, None, Some}
+use Rattle.std.proofs.Math.ListN.{get_or-append}
+use borrow.Author.Tests.{lt-leb}
 use Rattle.laws.proofs.Fault.{unless_fails}
 use Rattle.hex_line.specs.Told.{LineAnswer}
-use Rattle.std.specs.Prelude.{None, Some}
 use Rattle.hex_line.specs.Digit.{digit_of, read_value, is_digit, character_of}
 use Rattle.hex_line.specs.Line.{is_hex, byte_at, decoded, encoded}
 use Rattle.hex_line.specs.Answer.{encode_number}

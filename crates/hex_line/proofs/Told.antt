@@ -1,15 +1,8 @@
 -- What decoding and encoding tell their caller: which numbers are given, what 0 says, and what then stands in the space.
 -- Assumes nothing.
-use mathlib.Core.Path.{◌≡◌, refl, ap, sym, ◌∙◌}
-use mathlib.Core.Logic.{⊎_elim}
-use mathlib.Core.Bool.{Bool, true, false}
-use mathlib.Core.List.{List, ◌++◌}
-use Prim.Native.Nat.{ℕ, ◌/◌, ◌≤◌}
-use native.Mathlib.Omega.{arith}
-use lib.Dec.{eqb, leb}
-use lib.ListN.{length, take, drop, length-append, length-drop}
-use lib.Seq.{take-append_seam}
-use borrow.Author.Tests.{leb-true, eq-eqb, ne_eqb, eqb-true}
+use Rattle.std.proofs.Common.{◌≡◌, refl, ap, sym, ◌∙◌, ⊎_elim, Bool, true, false, List, ◌++◌, ℕ, ◌/◌, ◌≤◌, arith, eqb, leb, length, take}
+use Rattle.std.proofs.Common.{drop, length-append, length-drop, leb-true, eq-eqb, ne_eqb, eqb-true}
+use Rattle.std.proofs.Math.Seq.{take-append_seam}
 use Rattle.laws.proofs.Cases.{none_or_some}
 use Rattle.laws.specs.Fault.{unless}
 use Rattle.laws.specs.Pick.{pick}

@@ -1,10 +1,6 @@
 -- The bytes of a line, and the line of bytes, laid at the front of a space: from the start, by one byte more, to the end.
 -- Assumes nothing.
-use mathlib.Core.Path.{◌≡◌, sym, ◌∙◌}
-use mathlib.Core.List.{List, ◌++◌}
-use Prim.Native.Nat.{ℕ, ◌+◌, ◌*◌, ◌/◌, ◌%◌, ◌≤◌, ◌<◌}
-use native.Mathlib.Omega.{arith}
-use lib.ListN.{length, get_or, drop, set}
+use Rattle.std.proofs.Common.{◌≡◌, sym, ◌∙◌, List, ◌++◌, ℕ, ◌+◌, ◌*◌, ◌/◌, ◌%◌, ◌≤◌, ◌<◌, arith, length, get_or, drop, set}
 use Rattle.laws.proofs.Laid.{Laid, laid_none, front_put, front_list}
 use Rattle.hex_line.specs.Digit.{character_of}
 use Rattle.hex_line.specs.Line.{decoded, encoded}

@@ -1,14 +1,14 @@
 -- Where the next line feed stands: a search that passes over characters without one, and what is ahead of it.
 -- Assumes nothing.
-use Rattle.std.proofs.Common.{◌≡◌, refl, ap, sym, ◌∙◌, Bool, true, false, cond, Some, None, List, [], ◌∷◌, ◌++◌, ℕ}
-use Rattle.std.proofs.Common.{◌+◌, ◌-◌, ◌≤◌, ◌<◌, eqb, ltb, bit_or, length, get_or, take, drop, length-append, length-drop, take-append-drop, add-one, arith}
+use Rattle.std.proofs.Common.{◌≡◌, refl, ap, sym, ◌∙◌, Bool, true, false, cond, Some, None, List, [], ◌∷◌, ◌++◌, ℕ, ◌+◌, ◌-◌, ◌≤◌, ◌<◌, eqb}
+use Rattle.std.proofs.Common.{ltb, bit_or, length, get_or, take, drop, length-append, length-drop, take-append-drop, add-one, arith}
+use Rattle.std.proofs.Common.{eqb-true, ltb-false}
 use Rattle.std.specs.List.{position, position_or_len}
 use Rattle.std.specs.Option.{unwrap_or}
 use Rattle.std.proofs.Math.ListN.{drop_of_length-le}
 use Rattle.std.proofs.Math.Seq.{take-suc, take-add, take_all, length-take-le}
 use Rattle.std.proofs.lemmas.List.{take_rest}
 use Rattle.std.proofs.lemmas.List.Recursion.{is_position_or_len}
-use borrow.Author.Tests.{eqb-true, ltb-false}
 use mir.Val.{bool_byte}
 use Rattle.laws.specs.Pick.{pick}
 use Rattle.laws.proofs.Or.{or_none}

@@ -1,11 +1,9 @@
 -- A loop over a part: it stays, it moves on and on, over a line that goes on behind the part, and over one that ends in it.
 -- Assumes nothing.
-use mathlib.Core.Path.{◌≡◌, refl, ap, ap₂, sym, ◌∙◌}
-use mathlib.Core.List.{List, [], ◌∷◌, ◌++◌, append-nil, append_assoc}
-use Prim.Native.Nat.{ℕ, ◌+◌, ◌-◌, ◌≤◌, ◌<◌}
-use native.Mathlib.Omega.{arith}
-use lib.ListN.{length, take, drop, length-append, length-drop, take-append-drop, drop_of_length-le}
-use lib.Seq.{take_all, take-add, take_at, take-append-add, drop-append-add, drop-drop, length-take-le}
+use Rattle.std.proofs.Common.{◌≡◌, refl, ap, ap₂, sym, ◌∙◌, List, [], ◌∷◌, ◌++◌, append-nil, append_assoc, ℕ, ◌+◌, ◌-◌, ◌≤◌, ◌<◌, arith}
+use Rattle.std.proofs.Common.{length, take, drop, length-append, length-drop, take-append-drop, drop_of_length-le, take_all, take-add}
+use Rattle.std.proofs.Common.{take_at, drop-drop, length-take-le}
+use Rattle.std.proofs.Math.Seq.{take-append-add, drop-append-add}
 use Rattle.lines.specs.Lines.{line_feed, plain}
 use Rattle.lines.specs.Reader.{kept_chars, kept_line, Reader, next, reads, said, takes}
 use Rattle.lines.specs.Gather.{line_end}

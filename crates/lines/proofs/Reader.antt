@@ -1,16 +1,9 @@
 -- The reader: over two parts, over characters without a line feed, at a line feed, with little room, and over a whole input.
 -- Assumes nothing.
-use mathlib.Core.Path.{◌≡◌, refl, ap, ap₂, sym, ◌∙◌}
-use mathlib.Core.Bool.{Bool, true, false}
-use mathlib.Core.Logic.{⊎_elim}
-use mathlib.Core.List.{List, [], ◌∷◌, ◌++◌, append-nil, append_assoc}
-use Prim.Native.Nat.{ℕ, suc, ◌+◌, ◌-◌, ◌*◌, ◌≤◌, ◌<◌}
-use native.Mathlib.Nat.{not-suc-le-zero}
-use native.Mathlib.Omega.{arith}
-use lib.Dec.{eqb}
-use lib.ListN.{length, take, length-append, length-take}
-use lib.Seq.{take_all, take-take, take-append-le, append_snoc, length-take-le}
-use borrow.Author.Tests.{eqb-true, ne_eqb, lt-ltb, le-ltb}
+use Rattle.std.proofs.Common.{◌≡◌, refl, ap, ap₂, sym, ◌∙◌, Bool, true, false, ⊎_elim, List, [], ◌∷◌, ◌++◌, append-nil, append_assoc, ℕ}
+use Rattle.std.proofs.Common.{suc, ◌+◌, ◌-◌, ◌*◌, ◌≤◌, ◌<◌, not-suc-le-zero, arith, eqb, length, take, length-append, length-take, take_all}
+use Rattle.std.proofs.Common.{take-take, length-take-le, eqb-true, ne_eqb, lt-ltb, le-ltb}
+use Rattle.std.proofs.Math.Seq.{take-append-le, append_snoc}
 use Rattle.laws.proofs.Cases.{below_or_not}
 use Rattle.lines.specs.Lines.{line_feed, lines, plain}
 use Rattle.lines.specs.Reader.{kept_chars, kept_line, Reader, next, reads, says, said, takes, closing}

@@ -1,11 +1,6 @@
 -- Wrong outcomes that the promises do not permit.
 -- Assumes nothing.
-use mathlib.Core.Path.{◌≡◌, ap, ◌∙◌}
-use mathlib.Core.List.{List, [], ◌∷◌, ◌++◌}
-use Prim.Native.Nat.{ℕ, ◌<◌}
-use native.Mathlib.Omega.{arith}
-use lib.ListN.{get_or, take}
-use lib.Seq.{get_or-take}
+use Rattle.std.proofs.Common.{◌≡◌, ap, ◌∙◌, List, [], ◌∷◌, ◌++◌, ℕ, ◌<◌, arith, get_or, take, get_or-take}
 use Rattle.laws.proofs.Filled.{filled_at}
 use Rattle.lines.specs.declared.Gathered.{Gathered}
 use Rattle.lines.specs.Lines.{line_feed, plain}

@@ -1,12 +1,9 @@
 -- A text told in a space that has room for it, and in one that has not.
 -- Assumes nothing.
-use mathlib.Core.Path.{◌≡◌, refl, ap, ap₂, sym, ◌∙◌}
-use mathlib.Core.List.{List, [], ◌∷◌, ◌++◌, append-nil, append_assoc}
-use Prim.Native.Nat.{ℕ, suc, ◌+◌, ◌-◌, ◌≤◌, ◌<◌}
-use native.Mathlib.Omega.{arith}
-use lib.ListN.{length, get_or, take, drop, set, length-drop, take-append-drop}
-use lib.Seq.{drop-cons, drop-drop, set_at, append_snoc}
-use borrow.Author.Tests.{le-leb, lt-leb}
+use Rattle.std.proofs.Common.{◌≡◌, refl, ap, ap₂, sym, ◌∙◌, List, [], ◌∷◌, ◌++◌, append-nil, append_assoc, ℕ, suc, ◌+◌, ◌-◌, ◌≤◌, ◌<◌}
+use Rattle.std.proofs.Common.{arith, length, get_or, take, drop, set, length-drop, take-append-drop, drop-cons, drop-drop, le-leb}
+use Rattle.std.proofs.Math.Seq.{set_at, append_snoc}
+use borrow.Author.Tests.{lt-leb}
 use Rattle.laws.proofs.Lent.{lent_rest, lent_back}
 use Rattle.lines.specs.Lines.{line_feed}
 use Rattle.lines.specs.Moves.{Wrote}

@@ -1,7 +1,7 @@
 -- A line in its array, with zeros behind it: at no characters, and with more copied behind them.
 -- Assumes nothing.
-use Rattle.std.proofs.Common.{◌≡◌, refl, ap, ap₂, sym, ◌∙◌, List, [], ◌∷◌, ◌++◌, ℕ, zero}
-use Rattle.std.proofs.Common.{suc, ◌+◌, ◌-◌, ◌≤◌, min, length, take, drop, replicate, append_assoc, length-append, arith}
+use Rattle.std.proofs.Common.{◌≡◌, refl, ap, ap₂, sym, ◌∙◌, List, [], ◌∷◌, ◌++◌, ℕ, zero, suc, ◌+◌, ◌-◌, ◌≤◌, min, length, take, drop}
+use Rattle.std.proofs.Common.{replicate, append_assoc, length-append, arith}
 use Rattle.std.proofs.Math.ListN.{length-take}
 use Rattle.std.proofs.Math.Seq.{take-append-add, drop-drop, drop-append-add}
 use Rattle.std.proofs.lemmas.List.{drop-replicate}

@@ -1,12 +1,11 @@
 -- `hex_line::decode` meets its contract. By the first fault of the space and the line.
 -- Assumes nothing.
-use Rattle.std.proofs.Common.{sym}
+use Rattle.std.proofs.Common.{sym, rules}
 use Rattle.laws.proofs.Cases.{test_fails, test_holds}
 use Rattle.laws.proofs.Fault.{unless_fails, unless_holds}
 use Rattle.numbers.specs.Told.{number_of}
 use Rattle.hex_line.proofs.BothWays.{decoded_length}
 use Rattle.hex_line.proofs.Outcome.{number_size, number_length, number_rest, writes_refused, writes_done}
-use borrow.Author.Rules.{rules}
 use Rattle.hex_line.proofs.decode.Goals as goal
 
 pub returns-then-space-lt-SPACE : goal.returns-then-space-lt-SPACE

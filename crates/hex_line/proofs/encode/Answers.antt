@@ -1,10 +1,9 @@
 -- `hex_line::encode` meets its contract. By whether the space has room.
 -- Assumes nothing.
-use Rattle.std.proofs.Common.{sym}
+use Rattle.std.proofs.Common.{sym, rules}
 use Rattle.numbers.specs.Told.{number_of}
 use Rattle.hex_line.proofs.BothWays.{encoded_length}
 use Rattle.hex_line.proofs.Outcome.{number_room, number_cramped, writes_refused, writes_done}
-use borrow.Author.Rules.{rules}
 use Rattle.hex_line.proofs.encode.Goals as goal
 
 pub returns-then-bytes-space : goal.returns-then-bytes-space

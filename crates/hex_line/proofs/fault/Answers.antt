@@ -1,10 +1,8 @@
 -- `hex_line::fault` meets its contract. By one test over all 256 characters.
 -- Assumes nothing.
-use mir.Syntax.{w8}
-use mir.Val.{Fits}
+use Rattle.std.proofs.Common.{w8, Fits, rules}
 use Rattle.hex_line.specs.Digit.{digit_of, read_number}
 use Rattle.hex_line.proofs.Digits.{strange_found}
-use borrow.Author.Rules.{rules}
 use Rattle.hex_line.proofs.fault.Goals as goal
 
 pub returns : goal.returns

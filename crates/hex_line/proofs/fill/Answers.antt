@@ -3,7 +3,7 @@
 use Rattle.laws.proofs.Laid.{laid_length, front_within, front_put}
 use Rattle.hex_line.proofs.BothWays.{decoded_pair}
 use Rattle.hex_line.proofs.Writing.{bytes_none, bytes_all}
-use borrow.Author.Rules.{rules}
+use Rattle.std.proofs.Common.{rules}
 use Rattle.hex_line.proofs.fill.Goals as goal
 
 pub loop-i-init : goal.loop-i-init

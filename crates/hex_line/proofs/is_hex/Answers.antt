@@ -1,7 +1,7 @@
 -- `hex_line::is_hex` meets its contract. After i turns the faults of the first i characters are gathered, and the others are left.
 -- Assumes nothing.
 use Rattle.hex_line.proofs.Judging.{gathered_none, gathered_more, gathered_all}
-use borrow.Author.Rules.{rules}
+use Rattle.std.proofs.Common.{rules}
 use Rattle.hex_line.proofs.is_hex.Goals as goal
 
 pub loop-c-init : goal.loop-c-init

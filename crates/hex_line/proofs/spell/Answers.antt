@@ -1,11 +1,9 @@
 -- `hex_line::spell` meets its contract. After i turns the characters of the first i bytes stand at the front of the space, and the other
 -- bytes are left.
 -- Assumes nothing.
-use lib.ListN.{length-set}
-use native.Mathlib.Omega.{arith}
+use Rattle.std.proofs.Common.{length-set, arith, rules}
 use Rattle.laws.proofs.Laid.{laid_length}
 use Rattle.hex_line.proofs.Writing.{spelt_none, spelt_more, spelt_all}
-use borrow.Author.Rules.{rules}
 use Rattle.hex_line.proofs.spell.Goals as goal
 
 pub loop-i-init : goal.loop-i-init

@@ -2,7 +2,7 @@
 -- Assumes nothing.
 use Rattle.hex_line.specs.Digit.{digit_of, read_number, read_value}
 use Rattle.hex_line.proofs.Digits.{value_reckoned}
-use borrow.Author.Rules.{rules}
+use Rattle.std.proofs.Common.{rules}
 use Rattle.hex_line.proofs.value.Goals as goal
 
 pub returns : goal.returns

@@ -1,8 +1,7 @@
 -- `lines::clear` meets its contract. After each turn nothing was gathered only where none of the characters so far is a line feed.
 -- Assumes nothing.
-use Rattle.std.proofs.Common.{refl}
+use Rattle.std.proofs.Common.{refl, rules}
 use Rattle.lines.proofs.Finding.{clear_none, clear_more, clear_all}
-use borrow.Author.Rules.{rules}
 use Rattle.lines.proofs.clear.Goals as goal
 
 pub loop-c-init : goal.loop-c-init
