@@ -1,4 +1,5 @@
 pub mod Faultless
+pub mod First
 pub mod Formed
 pub mod Held
 pub mod Limit

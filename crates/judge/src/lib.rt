@@ -10,9 +10,10 @@ ghost use Rattle.laws.specs.Fault.{unless};
 ghost use Rattle.numbers.specs.Told.{number, number_of};
 ghost use Rattle.chain.specs.Count.{whole_for, four_for};
 ghost use Rattle.chain.specs.Stream.{settled};
-ghost use Rattle.judge.specs.Stream.{held_for, formed};
+ghost use Rattle.judge.specs.Stream.{chain_of, held_for, formed};
 ghost use Rattle.judge.specs.Promise.{StreamFaultPromise, LengthFaultPromise, EmptyFaultPromise};
 
+use chain::Chain;
 use numbers::Refusal;
 
 // The most bytes that a message may have.
@@ -37,6 +38,20 @@ pub struct Stream {
     pub whole: usize,
     // Four-round steps taken.
     pub four: usize,
+}
+
+// Its chain.
+impl From<Stream> for Chain {
+    ghost from_gives = { λ s chain. chain ≡ chain_of s };
+
+    fn from(s: Stream) -> Chain {
+        let value = s.value;
+        Chain {
+            value,
+            whole: s.whole,
+            four: s.four,
+        }
+    }
 }
 
 // Whether every byte of a block from one on is zero.

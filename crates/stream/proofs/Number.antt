@@ -26,7 +26,11 @@ use Rattle.judge.specs.Stream.{formed}
 use Rattle.judge.specs.Fault.{stream_number, length_number, empty_number}
 use Rattle.judge.proofs.Formed.{Formed}
 use Rattle.judge.proofs.Faultless.{stream_formed, formed_stream, length_fits, fits_length, empty_some}
-use Rattle.stream.specs.declared.Added.{Added}
+use Rattle.std.specs.Prelude.{Ok, Err}
+use Rattle.numbers.specs.declared.Refusal.{Refusal}
+use Rattle.numbers.specs.Told.{number}
+use Rattle.numbers.proofs.Number.{not_done}
+use Rattle.stream.specs.Told.{Added, told_added}
 use Rattle.stream.specs.Promise.{AddPromise}
 use Rattle.stream.specs.Answer.{add_number, added_to, add_answer, close_number}
 
@@ -69,9 +73,19 @@ module _ (k : KeySet) (s : Stream) (p : List ℕ) where
   add_done e q = rw (eq-eqb (add_number k s (length p)) 0 e) (λ i. record { number = 0; stream = q i })
 
   -- by the engine's step
-  pub add_walked : {t : Stream} → add_number k s (length p) ≡ 0 → t ≡ added_to k.order (chain_step k.round k.subkeys) s p
+  add_walked : {t : Stream} → add_number k s (length p) ≡ 0 → t ≡ added_to k.order (chain_step k.round k.subkeys) s p
       → record { number = 0; stream = t } ≡ add_answer k s p
   add_walked e q = add_done e (q ∙ ap (λ (f : Step). added_to k.order f s p) (engine_step k))
+
+  -- the same of what is handed back
+  pub add_err : (why : Refusal) → number {A = Unit {0}} (Err why) ≡ add_number k s (length p) → told_added s (Err why) ≡ add_answer k s p
+  unfolding number told_added
+  add_err why e = add_refused e (not_done why)
+
+  pub add_ok : {t : Stream} → add_number k s (length p) ≡ 0 → t ≡ added_to k.order (chain_step k.round k.subkeys) s p
+      → told_added s (Ok t) ≡ add_answer k s p
+  unfolding told_added
+  add_ok e q = add_walked e q
 
 -- an answer of adding by its number
 module _ (k : KeySet) (s : Stream) (p : List ℕ) (a : Added) (e : AddPromise k s p a) where

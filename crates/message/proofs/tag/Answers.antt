@@ -1,21 +1,24 @@
--- `message::tag` meets its contract. By the number of the first fault.
+-- `message::tag` meets its contract. By the first fault.
 -- Assumes nothing.
-use mathlib.Core.Path.{sym, ◌∙◌}
-use Rattle.tag.proofs.Answered.{making_refused, making_left, making_written}
+use Rattle.std.proofs.Common.{sym}
+use Rattle.std.proofs.lemmas.Result.{err_from_is_err_and}
+use Rattle.numbers.specs.Told.{number}
+use Rattle.tag.proofs.Answered.{making_err, making_stays, making_written}
 use Rattle.message.proofs.Number.{tags}
 use Rattle.message.proofs.tag.Goals as goal
 
-pub returns-then-number-ne-DONE : goal.returns-then-number-ne-DONE
-returns-then-number-ne-DONE c = (
-  c.refused.ensures ∙ making_refused _ _ c.fault-number.ensures c.if-number-ne-DONE.true,
-  making_left _ _ _ c.fault-number.ensures c.if-number-ne-DONE.true,
-)
+pub returns-in_err-fault : goal.returns-in_err-fault
+returns-in_err-fault c =
+    let p = err_from_is_err_and c.from_residual.result c.from_residual.ensures.1 in
+    rw (p.1, p.2) (making_err _ _ _ c.in_err-fault.ensures, making_stays _ _ _ c.in_err-fault.ensures _)
 
 pub sealed-requires : goal.sealed-requires
-sealed-requires c = let t = tags _ _ _ (sym c.fault-number.ensures ∙ c.if-number-ne-DONE.false) in (t.some, t.fits)
+unfolding number
+sealed-requires c = let t = tags _ _ _ (sym c.in_ok-fault.ensures) in (t.some, t.fits)
 
 pub returns : goal.returns
+unfolding number
 returns c =
-    let none = sym c.fault-number.ensures ∙ c.if-number-ne-DONE.false in
+    let none = sym c.in_ok-fault.ensures in
     let t = tags _ _ _ none in
     making_written _ _ _ _ _ none t.set.tag t.size c.sealed.ensures c.write.ensures

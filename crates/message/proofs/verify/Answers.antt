@@ -1,18 +1,21 @@
--- `message::verify` meets its contract. By the number of the first fault.
+-- `message::verify` meets its contract. By the first fault.
 -- Assumes nothing.
-use mathlib.Core.Path.{sym, ◌∙◌}
-use Rattle.tag.proofs.Answered.{checking_refused, checking_checked}
+use Rattle.std.proofs.Common.{sym}
+use Rattle.numbers.specs.Told.{number}
+use Rattle.tag.proofs.Answered.{checking_err, checking_checked}
 use Rattle.message.proofs.Number.{tags}
 use Rattle.message.proofs.verify.Goals as goal
 
-pub returns-then-number-ne-DONE : goal.returns-then-number-ne-DONE
-returns-then-number-ne-DONE c = c.refused.ensures ∙ checking_refused _ _ _ _ c.fault-number.ensures c.if-number-ne-DONE.true
+pub returns-in-Err : goal.returns-in-Err
+returns-in-Err c = checking_err _ _ _ c.in-Err.ensures _ _ _ c.unchecked.ensures
 
 pub sealed-requires : goal.sealed-requires
-sealed-requires c = let t = tags _ _ _ (sym c.fault-number.ensures ∙ c.if-number-ne-DONE.false) in (t.some, t.fits)
+unfolding number
+sealed-requires c = let t = tags _ _ _ (sym c.in-Ok.ensures) in (t.some, t.fits)
 
-pub returns : goal.returns
-returns c =
-    let none = sym c.fault-number.ensures ∙ c.if-number-ne-DONE.false in
+pub returns-in-Ok : goal.returns-in-Ok
+unfolding number
+returns-in-Ok c =
+    let none = sym c.in-Ok.ensures in
     let t = tags _ _ _ none in
     checking_checked _ _ _ _ _ none t.set.tag t.size c.sealed.ensures c.compare.ensures

@@ -1,17 +1,22 @@
--- `stream::add` meets its contract. By the number of the first fault.
+-- `stream::add` meets its contract. By the first fault.
 -- Assumes nothing.
-use mathlib.Core.Path.{sym, ◌∙◌}
-use Rattle.stream.proofs.Number.{adds, add_refused, add_walked}
+use Rattle.std.proofs.Common.{sym}
+use Rattle.std.proofs.lemmas.Result.{err_from_is_err_and}
+use Rattle.numbers.specs.Told.{number}
+use Rattle.stream.proofs.Number.{adds, add_err, add_ok}
 use Rattle.stream.proofs.add.Goals as goal
 
-pub returns-then-number-ne-DONE : goal.returns-then-number-ne-DONE
-returns-then-number-ne-DONE c = add_refused _ _ _ c.add_fault-number.ensures c.if-number-ne-DONE.true
+pub returns-in_err-add_fault : goal.returns-in_err-add_fault
+returns-in_err-add_fault c =
+    let p = err_from_is_err_and c.from_residual.result c.from_residual.ensures.1 in
+    rw (p.1, p.2) (add_err _ _ _ _ c.in_err-add_fault.ensures)
 
 pub extended-requires : goal.extended-requires
+unfolding number
 extended-requires c =
-    let a = adds _ _ _ (sym c.add_fault-number.ensures ∙ c.if-number-ne-DONE.false) in
+    let a = adds _ _ _ (sym c.in_ok-add_fault.ensures) in
     record { form = a.form; fits = a.fits }
 
 pub returns : goal.returns
-returns c =
-    add_walked _ _ _ (sym c.add_fault-number.ensures ∙ c.if-number-ne-DONE.false) c.extended.ensures
+unfolding number
+returns c = add_ok _ _ _ (sym c.in_ok-add_fault.ensures) c.extended.ensures

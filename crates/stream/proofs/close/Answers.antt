@@ -1,23 +1,26 @@
--- `stream::close` meets its contract. By the number of the first fault.
+-- `stream::close` meets its contract. By the first fault.
 -- Assumes nothing.
-use mathlib.Core.Path.{sym, ◌∙◌}
-use Rattle.tag.proofs.Answered.{making_refused, making_left, making_written}
+use Rattle.std.proofs.Common.{sym}
+use Rattle.std.proofs.lemmas.Result.{err_from_is_err_and}
+use Rattle.numbers.specs.Told.{number}
+use Rattle.tag.proofs.Answered.{making_err, making_stays, making_written}
 use Rattle.stream.proofs.Number.{closes}
 use Rattle.stream.proofs.close.Goals as goal
 
-pub returns-then-number-ne-DONE : goal.returns-then-number-ne-DONE
-returns-then-number-ne-DONE c = (
-  c.refused.ensures ∙ making_refused _ _ c.close_fault-number.ensures c.if-number-ne-DONE.true,
-  making_left _ _ _ c.close_fault-number.ensures c.if-number-ne-DONE.true,
-)
+pub returns-in_err-close_fault : goal.returns-in_err-close_fault
+returns-in_err-close_fault c =
+    let p = err_from_is_err_and c.from_residual.result c.from_residual.ensures.1 in
+    rw (p.1, p.2) (making_err _ _ _ c.in_err-close_fault.ensures, making_stays _ _ _ c.in_err-close_fault.ensures _)
 
 pub sealed-requires : goal.sealed-requires
+unfolding number
 sealed-requires c =
-    let taken = closes _ _ _ (sym c.close_fault-number.ensures ∙ c.if-number-ne-DONE.false) in
-    record { form = taken.form; some = taken.some }
+    let t = closes _ _ _ (sym c.in_ok-close_fault.ensures) in
+    record { form = t.form; some = t.some }
 
 pub returns : goal.returns
+unfolding number
 returns c =
-    let none = sym c.close_fault-number.ensures ∙ c.if-number-ne-DONE.false in
+    let none = sym c.in_ok-close_fault.ensures in
     let t = closes _ _ _ none in
     making_written _ _ _ _ _ none t.set.tag t.size c.sealed.ensures c.write.ensures

@@ -9,7 +9,7 @@ use borrow.Author.Rules.{rules}
 use Rattle.stream.proofs.extended.Goals as goal
 use Rattle.stream.proofs.extended.Goals.{Start}
 
-fine : (c : Start) → Fine c.args.order c.args.s
+fine : (c : Start) → Fine c.args.keys.now.order c.args.s
 fine c = record { form = c.requires.form; size = search rules }
 
 pub overflow_sub-n : goal.overflow_sub-n

@@ -10,7 +10,7 @@ use borrow.Author.Rules.{rules}
 use Rattle.stream.proofs.past.Goals as goal
 use Rattle.stream.proofs.past.Goals.{Start}
 
-fine : (c : Start) → Fine c.args.order c.args.s
+fine : (c : Start) → Fine c.args.keys.now.order c.args.s
 fine c = record { form = c.requires.extends.form; size = search rules }
 
 -- the held bytes are at most a block, and the part goes on where it is full
@@ -31,7 +31,7 @@ overflow_sub-done c = omega (arith, (formed_holds _ _ c.requires.extends.form).s
 
 pub taken-c-requires : goal.taken-c-requires
 taken-c-requires c =
-    chain_few _ _ c.requires.extends.form c.chain_of.ensures
+    chain_few _ _ c.requires.extends.form c.from.ensures
 
 pub returns : goal.returns
 returns c =
@@ -41,4 +41,4 @@ returns c =
     let more = full (goal.at.returns c).Start in
     added_over _ _ s p (fine (goal.at.returns c).Start) (16 - s.count) ((length p - (16 - s.count) - 1) / 16)
     ((s.total - s.count) / 16) (omega (arith, holds.most)) (omega arith) (omega arith) (omega (arith, holds.sum))
-    c.requires.filled refl c.read.ensures c.taken-c.ensures c.chain_of.ensures
+    c.requires.filled refl c.read.ensures c.taken-c.ensures c.from.ensures

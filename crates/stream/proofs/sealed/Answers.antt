@@ -17,5 +17,5 @@ value_size c = search rules
 
 pub returns : goal.returns
 returns c =
-    closing_sealed c.args.keys c.args.s c.chain_of.ensures c.seal.ensures (fine (goal.at.returns c).Start)
+    closing_sealed c.args.keys c.args.s c.from.ensures c.seal.ensures (fine (goal.at.returns c).Start)
     (value_size (goal.at.returns c).Start) c.requires.some
