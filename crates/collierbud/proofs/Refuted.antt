@@ -17,7 +17,7 @@ use Rattle.tag.proofs.Answered.{making_number, making_refused, making_left, chec
 use Rattle.message.specs.Answer.{tagged}
 use Rattle.frame.specs.declared.FrameAnswer.{FrameAnswer}
 use Rattle.frame.specs.Frame.{refused_frame, frame_answer}
-use Rattle.frame.proofs.Judged.{Checked, tag_accepted, verdict_cases}
+use Rattle.frame.proofs.Verdict.{Checked, tag_accepted, verdict_cases}
 use Rattle.collierbud.specs.Answer.{start_number, unless_refused, tagging, tagged_space, checking, opening}
 use Rattle.collierbud.specs.Promise.{TagPromise, CheckPromise, OpenPromise}
 use Rattle.collierbud.proofs.Answered.{start_key, start_places, is_refused, two_is, two_left, three_is}

@@ -32,7 +32,7 @@ use Rattle.frame.specs.Open.{opened, opened_or, opened_at}
 use Rattle.frame.specs.Promise.{JudgePromise, OpenPromise, OpenOrPromise}
 use Rattle.frame.proofs.Number.{frame_set, framed_none}
 use Rattle.frame.proofs.Made.{body_length_is, tag_length, answer_refused, answer_checked}
-use Rattle.frame.proofs.Judged.{checked, tag_accepted, is_differing, refused_zeros}
+use Rattle.frame.proofs.Verdict.{checked, tag_accepted, is_differing, refused_zeros}
 use Rattle.frame.proofs.Opened.{opened_accepted, opened_or_accepted, opened_at_accepted, number_is, body_is, open_none, open_or_table}
 use Rattle.answer.specs.Promise.{OfLinePromise}
 use Rattle.demands.specs.Numbers.{Verdict}

@@ -40,7 +40,7 @@ use Rattle.keyline.specs.Promise.{ReadPromise}
 use Rattle.frame.specs.declared.FrameAnswer.{FrameAnswer}
 use Rattle.frame.specs.Frame.{frame_number, refused_frame}
 use Rattle.frame.specs.Promise.{JudgePromise}
-use Rattle.frame.proofs.Judged.{faulty, checked, tag_accepted}
+use Rattle.frame.proofs.Verdict.{faulty, checked, tag_accepted}
 use Rattle.frame.proofs.Opened as opened
 use Rattle.answer.specs.Promise.{OfLinePromise}
 use Rattle.writer.specs.Line.{write_number}

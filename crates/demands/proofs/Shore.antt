@@ -35,7 +35,7 @@ use Rattle.frame.specs.Promise.{JudgePromise, OpenPromise}
 use Rattle.frame.proofs.Number.{frame_short}
 use Rattle.frame.proofs.Made.{answer_refused, body_length_is}
 use Rattle.frame.proofs.Opened.{opened_accepted, front_is, number_is as judged-number}
-use Rattle.frame.proofs.Judged.{is_accepted, checked}
+use Rattle.frame.proofs.Verdict.{is_accepted, checked}
 use Rattle.lines.specs.Lines.{line_feed, plain, lines}
 use Rattle.lines.proofs.Plain.{plain_more, lines_feed}
 use Rattle.answer.specs.Line.{line_answer}

@@ -1,5 +1,5 @@
-pub mod Judged
 pub mod Made
 pub mod Number
 pub mod Opened
 pub mod Refuted
+pub mod Verdict

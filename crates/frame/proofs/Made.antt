@@ -1,25 +1,40 @@
 -- The verdict on a frame, by what was found on the way to it.
 -- Assumes nothing.
-use mathlib.Core.Path.{◌≡◌, ap, sym, ◌∙◌}
-use mathlib.Core.Bool.{Bool}
-use mathlib.Core.List.{List}
-use Prim.Native.Nat.{ℕ, ◌-◌, ◌≤◌}
-use native.Mathlib.Omega.{arith}
-use lib.Dec.{eqb}
-use lib.ListN.{length, take, drop, length-drop}
-use lib.Seq.{length-take-le}
-use borrow.Author.Tests.{eq-eqb, ne_eqb}
-use Rattle.laws.specs.Pick.{pick}
+use Rattle.std.proofs.Common.{◌≡◌, refl, ap, sym, ◌∙◌, Result, Ok, Err, List, ℕ, ◌-◌, ◌≤◌, arith, length, take, drop}
+use Rattle.std.proofs.Common.{length-drop, length-take-le, eq-eqb, ne_eqb}
+use Rattle.std.specs.Result.{result_and}
 use Rattle.laws.proofs.Lent.{lent_rest}
 use Rattle.keys.specs.declared.KeySet.{KeySet}
-use Rattle.tag.specs.declared.TagAnswer.{TagAnswer}
+use Rattle.numbers.specs.declared.Refusal.{Refusal}
+use Rattle.numbers.specs.Told.{number, number_of}
+use Rattle.numbers.proofs.Number.{not_done}
+use Rattle.tag.specs.declared.Checked.{Checked}
+use Rattle.tag.specs.Told.{TagAnswer, told_checked}
 use Rattle.tag.specs.Answer.{checked_tag}
 use Rattle.tag.specs.Tag.{tag_bytes}
 use Rattle.tag.proofs.Answered.{checking_is}
 use Rattle.message.specs.Answer.{message_number, tagged, verdict}
 use Rattle.message.proofs.Number.{tags_none}
 use Rattle.frame.specs.Frame.{body_length, body_of, tag_of, frame_number, refused_frame, checked_frame, frame_answer}
+use Rattle.frame.specs.Told.{told_frame}
 use Rattle.frame.proofs.Number.{Framed, framed}
+
+-- what is told of a check with the length of a body where it accepts
+told_is : (v : Checked) (n : ℕ) → told_frame (record { body = result_and v.outcome (Ok n); counts = v.counts })
+    ≡ checked_frame (told_checked v) n
+unfolding told_frame told_checked checked_frame number
+told_is v n = by v.outcome
+  where
+    by : (o : Result Unit Refusal) → told_frame (record { body = result_and o (Ok n); counts = v.counts })
+        ≡ checked_frame (told_checked (record { outcome = o; counts = v.counts })) n
+    by (Ok u) = refl
+    by (Err why) = rw (ne_eqb (number_of why) 0 (not_done why))
+
+-- the number of a body's outcome is that of the outcome without the body
+pub number_and : (b : Result ℕ Refusal) → number (result_and {U = Unit {0}} b (Ok (tt {0}))) ≡ number b
+unfolding number
+number_and (Ok n) = refl
+number_and (Err why) = refl
 
 module _ (k : KeySet) (f : List ℕ) where
   -- the body, and the tag behind it
@@ -61,13 +76,15 @@ module _ (k : KeySet) (f : List ℕ) where
   verified g e = e ∙ checking_is _ (tagged k (body_of k f)) k.bits (tag_of k f) (message_none g)
 
   -- and the verdict on the frame is made of it, where s is what a tag occupies
-  pub answer_made : {s : ℕ} {v : TagAnswer} (t : Bool) → frame_number k (length f) ≡ 0 → s ≡ tag_bytes k.bits
-      → eqb v.number 0 ≡ t → v ≡ verdict k (take (length f - s) f) (take (length f - (length f - s)) (drop (length f - s) f))
-      → record { number = v.number; whole = v.whole; four = v.four; body = pick t (length f - s) 0 } ≡ frame_answer k f
-  unfolding body_of tag_of checked_frame
-  answer_made {s} {v} t z q b e =
+  pub answer_made : {s : ℕ} {b : Result ℕ Refusal} (v : Checked) → frame_number k (length f) ≡ 0 → s ≡ tag_bytes k.bits
+      → b ≡ result_and v.outcome (Ok (length f - s))
+      → told_checked v ≡ verdict k (take (length f - s) f) (take (length f - (length f - s)) (drop (length f - s) f))
+      → told_frame (record { body = b; counts = v.counts }) ≡ frame_answer k f
+  unfolding body_of tag_of
+  answer_made {s} {b} v z q g e =
       let n : length f - s ≡ body_length k f = ap (λ (x : ℕ). length f - x) q in
       let parts = ap (λ (x : ℕ). verdict k (take x f) (take (length f - x) (drop x f))) n in
       let rest = ap (verdict k (body_of k f)) (lent_rest f (body_length k f)) in
       let is = verified (framed k (length f) z) (e ∙ parts ∙ rest) in
-      rw (← b, n) (ap (λ (w : TagAnswer). checked_frame w (body_length k f)) is ∙ sym (answer_checked z))
+      ap (λ (x : Result ℕ Refusal). told_frame (record { body = x; counts = v.counts })) (g ∙ ap (λ (x : ℕ). result_and v.outcome (Ok x)) n)
+      ∙ told_is v (body_length k f) ∙ ap (λ (w : TagAnswer). checked_frame w (body_length k f)) is ∙ sym (answer_checked z)

@@ -1,12 +1,8 @@
 -- A frame's number by cases, and what number 0 tells of its length and its key set, and what it takes.
 -- Assumes nothing.
-use mathlib.Core.Path.{◌≡◌, refl, sym}
-use mathlib.Core.Bool.{Bool, true, false}
-use mathlib.Core.List.{[], ◌∷◌}
-use mathlib.Core.Logic.{◌⊎◌, inl, inr}
-use Prim.Native.Nat.{ℕ, ◌≤◌, ◌<◌}
-use lib.Dec.{leb, ltb}
-use borrow.Author.Tests.{leb-true, ltb-true, le-leb, lt-ltb, lt-leb, le-ltb}
+use Rattle.std.proofs.Common.{◌≡◌, refl, sym, Bool, true, false, [], ◌∷◌, ◌⊎◌, inl, inr, ℕ, ◌≤◌, ◌<◌, leb, ltb, leb-true, ltb-true, le-leb}
+use Rattle.std.proofs.Common.{lt-ltb, le-ltb}
+use borrow.Author.Tests.{lt-leb}
 use Rattle.laws.specs.Agree.{both}
 use Rattle.laws.specs.Fault.{unless, first_fault}
 use Rattle.laws.specs.UpTo.{up_to}

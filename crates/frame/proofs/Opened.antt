@@ -1,16 +1,17 @@
 -- What opening a frame hands back, by the verdict on it.
 -- Assumes nothing.
-use mathlib.Core.Path.{◌≡◌, ap, sym, ◌∙◌}
-use mathlib.Core.List.{List, []}
-use Prim.Native.Nat.{ℕ, ◌≤◌}
-use native.Mathlib.Omega.{arith}
-use lib.ListN.{length, take}
-use borrow.Author.Tests.{eq-eqb, ne_eqb}
+use Rattle.std.proofs.Common.{◌≡◌, ap, sym, ◌∙◌, List, [], ℕ, ◌≤◌, arith, length, take, eq-eqb, ne_eqb, Result, Ok, Err}
+use Rattle.std.specs.Result.{result_unwrap_or}
+use Rattle.numbers.specs.declared.Refusal.{Refusal}
+use Rattle.numbers.specs.Told.{number}
+use Rattle.numbers.proofs.Number.{not_done}
 use Rattle.keys.specs.declared.KeySet.{KeySet}
 use Rattle.frame.specs.declared.FrameAnswer.{FrameAnswer}
+use Rattle.frame.specs.declared.Judged.{Judged}
+use Rattle.frame.specs.Told.{told_frame}
 use Rattle.frame.specs.Frame.{body_length, body_of, frame_answer}
 use Rattle.frame.specs.Open.{opened, opened_or, opened_at}
-use Rattle.frame.proofs.Judged.{is_accepted}
+use Rattle.frame.proofs.Verdict.{is_accepted}
 
 -- of an accepted frame: the body, which lies where the frame does
 module _ (k : KeySet) (f : List ℕ) (z : (frame_answer k f).number ≡ 0) where
@@ -70,3 +71,33 @@ module _ (k : KeySet) (f : List ℕ) {v : FrameAnswer} (e : v ≡ frame_answer k
   open_or_table t a b h =
       let n : (frame_answer k f).number ≡ 0 → ⊥ = λ z. h (number_is ∙ z) in
       (sym (opened_or_refused k f n t), sym (opened_at_refused k f n a b))
+
+-- the same by what was judged: how long the body is, or why there is none
+module _ (k : KeySet) (f : List ℕ) (j : Judged) (e : told_frame j ≡ frame_answer k f) where
+  told_done : (n : ℕ) → j.body ≡ Ok n → (told_frame j).number ≡ 0
+  unfolding told_frame number
+  told_done n q = ap number q
+
+  told_length : (n : ℕ) → j.body ≡ Ok n → (told_frame j).body ≡ n
+  unfolding told_frame
+  told_length n q = ap (λ (r : Result ℕ Refusal). result_unwrap_or r 0) q
+
+  told_refused : (why : Refusal) → j.body ≡ Err why → (told_frame j).number ≡ 0 → ⊥
+  unfolding told_frame number
+  told_refused why q z = not_done why (sym (ap number q) ∙ z)
+
+  pub judged_within : (n : ℕ) → j.body ≡ Ok n → n ≤ length f
+  judged_within n q = rw (told_length n q) at (body_within k f e (told_done n q))
+
+  pub open_judged : (n : ℕ) → j.body ≡ Ok n → take n f ≡ opened k f
+  open_judged n q = rw (told_length n q) at (open_body k f e (told_done n q))
+
+  pub open_refused : (why : Refusal) → j.body ≡ Err why → [] ≡ opened k f
+  open_refused why q = open_none k f e (told_refused why q)
+
+  pub open_or_judged : (t : List ℕ) (a b : ℕ × ℕ) (n : ℕ) → j.body ≡ Ok n → (take n f ≡ opened_or k f t) × (a ≡ opened_at k f a b)
+  open_or_judged t a b n q = rw (told_length n q) at (open_or_body k f e t a b (told_done n q))
+
+  pub open_or_refused : (t : List ℕ) (a b : ℕ × ℕ) (why : Refusal) → j.body ≡ Err why
+      → (t ≡ opened_or k f t) × (b ≡ opened_at k f a b)
+  open_or_refused t a b why q = open_or_table k f e t a b (told_refused why q)

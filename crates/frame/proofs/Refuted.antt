@@ -1,12 +1,6 @@
 -- Wrong outcomes that the promises do not permit.
 -- Assumes nothing.
-use mathlib.Core.Path.{◌≡◌, refl, ap, sym, ◌∙◌}
-use mathlib.Core.Logic.{⊎_elim}
-use mathlib.Core.Bool.{Bool, true, false}
-use mathlib.Core.List.{List, []}
-use Prim.Native.Nat.{ℕ, ◌+◌, ◌≤◌, ◌<◌}
-use native.Mathlib.Omega.{arith}
-use lib.ListN.{length, get_or}
+use Rattle.std.proofs.Common.{◌≡◌, refl, ap, sym, ◌∙◌, ⊎_elim, Bool, true, false, List, [], ℕ, ◌+◌, ◌≤◌, ◌<◌, arith, length, get_or}
 use denote.Ref.{Bor}
 use Rattle.laws.proofs.Cases.{none_or_some}
 use Rattle.laws.specs.Pick.{pick}
@@ -24,7 +18,7 @@ use Rattle.frame.specs.Frame.{body_length, body_of, tag_of, frame_number, refuse
 use Rattle.frame.specs.Promise.{RefusedPromise, JudgePromise, OpenPromise, OpenOrPromise}
 use Rattle.frame.proofs.Number.{frame_set, frame_none, framed}
 use Rattle.frame.proofs.Made.{body_length_is}
-use Rattle.frame.proofs.Judged.{tag_accepted, faulty, checked, is_accepted, is_differing, differing_is}
+use Rattle.frame.proofs.Verdict.{tag_accepted, faulty, checked, is_accepted, is_differing, differing_is}
 use Rattle.frame.proofs.Opened.{number_is, body_is}
 use Rattle.frame.proofs.Opened.{opened_accepted, opened_or_accepted, opened_at_accepted, opened_refused, opened_at_refused}
 

@@ -1,3 +1,4 @@
 pub mod Frame
 pub mod Open
 pub mod Promise
+pub mod Told

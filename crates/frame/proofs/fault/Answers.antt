@@ -1,19 +1,26 @@
 -- `frame::fault` meets its contract. One test after the other.
 -- Assumes nothing.
-use native.Mathlib.Omega.{arith}
+use Rattle.std.proofs.Common.{refl, arith}
+use Rattle.std.proofs.lemmas.Result.{err_from_is_err_and}
+use Rattle.numbers.specs.Told.{number, number_of}
+use Rattle.numbers.proofs.Number.{not_done}
 use Rattle.frame.proofs.Number.{frame_set, frame_long, frame_short, frame_none}
 use Rattle.frame.proofs.fault.Goals as goal
 
-pub returns-then-set-ne-DONE : goal.returns-then-set-ne-DONE
-returns-then-set-ne-DONE c = frame_set _ _ c.set_fault-set.ensures c.if-set-ne-DONE.true
+pub returns-in_err-set_fault : goal.returns-in_err-set_fault
+unfolding number
+returns-in_err-set_fault c =
+    let p = err_from_is_err_and c.from_residual.result c.from_residual.ensures.1 in
+    rw (p.1, p.2) (frame_set _ _ c.in_err-set_fault.ensures (not_done _))
 
 pub returns-then-n-gt-LONGEST : goal.returns-then-n-gt-LONGEST
-returns-then-n-gt-LONGEST c = frame_long _ _ c.set_fault-set.ensures c.if-set-ne-DONE.false (omega arith)
+unfolding number number_of
+returns-then-n-gt-LONGEST c = frame_long _ _ c.in_ok-set_fault.ensures refl (omega arith)
 
 pub returns-then-n-size : goal.returns-then-n-size
-returns-then-n-size c =
-    frame_short _ _ c.set_fault-set.ensures c.if-set-ne-DONE.false (omega arith) (omega arith)
+unfolding number number_of
+returns-then-n-size c = frame_short _ _ c.in_ok-set_fault.ensures refl (omega arith) (omega arith)
 
 pub returns : goal.returns
-returns c =
-    frame_none _ _ c.set_fault-set.ensures c.if-set-ne-DONE.false (omega arith) (omega arith)
+unfolding number
+returns c = frame_none _ _ c.in_ok-set_fault.ensures refl (omega arith) (omega arith)

@@ -1,16 +1,14 @@
 -- `frame::open_or` meets its contract. By the verdict on the frame.
 -- Assumes nothing.
-use lib.Seq.{length-take-le}
-use Rattle.frame.proofs.Opened.{body_within, open_or_body, open_or_table}
-use borrow.Author.Rules.{rules}
+use Rattle.std.proofs.Common.{length-take-le, rules}
+use Rattle.frame.proofs.Opened.{judged_within, open_or_judged, open_or_refused}
 use Rattle.frame.proofs.open_or.Goals as goal
 
 pub slice_bounds-result-end : goal.slice_bounds-result-end
-slice_bounds-result-end c =
-    search (rules, length-take-le, body_within _ _ c.judge-v.ensures c.if-v-eq-DONE.true)
+slice_bounds-result-end c = search (rules, length-take-le, judged_within _ _ c.judge.result c.judge.ensures _ c.in-Ok.is)
 
-pub returns-then-v-eq-DONE : goal.returns-then-v-eq-DONE
-returns-then-v-eq-DONE c = open_or_body _ _ c.judge-v.ensures _ _ _ c.if-v-eq-DONE.true
+pub returns-in-Ok : goal.returns-in-Ok
+returns-in-Ok c = open_or_judged _ _ c.judge.result c.judge.ensures _ _ _ _ c.in-Ok.is
 
-pub returns : goal.returns
-returns c = open_or_table _ _ c.judge-v.ensures _ _ _ c.if-v-eq-DONE.false
+pub returns-in-Err : goal.returns-in-Err
+returns-in-Err c = open_or_refused _ _ c.judge.result c.judge.ensures _ _ _ _ c.in-Err.is

@@ -1,13 +1,6 @@
 -- What the verdict on a frame tells: its number, its counts and its length.
 -- Assumes nothing.
-use mathlib.Core.Path.{◌≡◌, refl, ap, sym, ◌∙◌}
-use mathlib.Core.Bool.{Bool, true, false}
-use mathlib.Core.List.{List}
-use mathlib.Core.Logic.{◌⊎◌, inl, inr, ⊎_elim}
-use Prim.Native.Nat.{ℕ}
-use native.Mathlib.Omega.{arith}
-use lib.Dec.{eqb}
-use lib.ListN.{length}
+use Rattle.std.proofs.Common.{◌≡◌, refl, ap, sym, ◌∙◌, Bool, true, false, List, ◌⊎◌, inl, inr, ⊎_elim, ℕ, arith, eqb, length}
 use Rattle.laws.proofs.Cases.{none_or_some}
 use Rattle.laws.specs.Pick.{pick}
 use Rattle.block.specs.Bits.{bits}
