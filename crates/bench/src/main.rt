@@ -10,114 +10,85 @@
 ghost use Rattle.std.specs.Prelude.{◌<◌};
 
 use keys::KeySet;
+use std::io::{Read, Write};
 
-// The file descriptor of standard output.
-const STDOUT: i32 = 1;
-
-#[derive(Clone, Copy)]
-struct Keys {
-    u1: [u8; 16],
-    u2: [u8; 16],
-    u3: [u8; 16],
-}
-
-// One block through E, or through G under keys of its own.
-fn step(is_e: bool, w: &[u8; 176], k: Keys, block: [u8; 16]) -> [u8; 16] {
-    if is_e {
-        return aes::encrypt_block(w, block);
-    }
-    let u1 = k.u1;
-    let u2 = k.u2;
-    let u3 = k.u3;
-    aes::four_rounds(u1, u2, u3, block)
-}
-
-// The last block of a chain, from the zero block.
-fn chain(is_e: bool, w: &[u8; 176], k: Keys, blocks: usize) -> [u8; 16] {
-    let mut block = [0u8; 16];
-    let mut n: usize = 0;
-    while n < blocks {
-        n += 1;
-        let next = step(is_e, w, k, block);
-        block = next;
-    }
-    block
-}
-
-// U1, U2, U3 are E of the blocks of ones, twos and threes.
-fn keys_for(w: &[u8; 176]) -> Keys {
-    Keys {
-        u1: aes::encrypt_block(w, [1u8; 16]),
-        u2: aes::encrypt_block(w, [2u8; 16]),
-        u3: aes::encrypt_block(w, [3u8; 16]),
-    }
-}
-
-// The digit's value, 0 where it is none.
-fn times(digit: u8) -> usize
-    ensures { result < 10 }
+// What is counted, done so many times over sixteen bytes, which begin as zeros.
+fn repeated<F: Fn(&mut [u8; 16])>(times: usize, step: F) -> [u8; 16]
+    requires { F.IsAlwaysCallable step }
 {
-    if digit < b'0' {
-        return 0;
+    let mut bytes = [0u8; 16];
+    for _ in 0..times {
+        step(&mut bytes);
     }
-    if b'9' < digit {
-        return 0;
-    }
-    (digit - b'0') as usize
+    bytes
 }
 
-// The key set of an order.
+// The last block of a chain of E.
+fn encrypted(blocks: usize) -> [u8; 16] {
+    let w = aes::expand_key([7u8; 16]);
+    repeated(blocks, |block| *block = aes::encrypt_block(&w, *block))
+}
+
+// The last block of a chain of G under U1, U2, U3, which are E of the blocks of ones, twos and threes.
+fn four(blocks: usize) -> [u8; 16] {
+    let w = aes::expand_key([7u8; 16]);
+    let u1 = aes::encrypt_block(&w, [1u8; 16]);
+    let u2 = aes::encrypt_block(&w, [2u8; 16]);
+    let u3 = aes::encrypt_block(&w, [3u8; 16]);
+    repeated(
+        blocks,
+        |block| *block = aes::four_rounds(u1, u2, u3, *block),
+    )
+}
+
+// The key set of an order, zeros where there is none.
 fn set_for(order: usize) -> KeySet {
-    let made = keys::key_call(order, 128, &[7u8; 16], &[9u8; 16]);
-    made.keys
-}
-
-// A part of 1 MiB.
-fn mebibyte() -> [u8; 1048576] {
-    [5u8; 1048576]
+    match keys::key_call(order, 128, &[7u8; 16], &[9u8; 16]) {
+        Ok(made) => made.keys,
+        Err(_) => keys::no_set(),
+    }
 }
 
 // The tag of a stream of 1 MiB, made so many times.
 fn streamed(order: usize, times: usize) -> [u8; 16] {
     let set = set_for(order);
-    let part = mebibyte();
-    let mut tag = [0u8; 16];
-    let mut n: usize = 0;
-    while n < times {
-        let added = stream::add(set, stream::start(), &part);
-        stream::close(set, added.stream, &mut tag);
-        n += 1;
-    }
-    tag
+    let part = [5u8; 1048576];
+    repeated(times, |tag| {
+        let start = stream::start();
+        let added = stream::add(set, start, &part).unwrap_or(start);
+        let _ = stream::close(set, added, tag);
+    })
 }
 
 // The tag of a message of 100 bytes, made so many times.
 fn tagged(order: usize, times: usize) -> [u8; 16] {
     let set = set_for(order);
     let message = [5u8; 100];
-    let mut tag = [0u8; 16];
-    let mut n: usize = 0;
-    while n < times {
-        message::tag(set, &message, &mut tag);
-        n += 1;
-    }
-    tag
+    repeated(times, |tag| {
+        let _ = message::tag(set, &message, tag);
+    })
 }
 
-fn main() {
+// The digit's value, 0 where it is none.
+fn value(digit: u8) -> usize
+    ensures { result < 10 }
+{
+    match digit {
+        b'0'..=b'9' => usize::from(digit - b'0'),
+        _ => 0,
+    }
+}
+
+fn main(rt: HostRuntime) {
     let mut asked = [0u8; 3];
-    io::read_full(0, &mut asked);
-    if asked[0] == b'S' {
-        let tag = streamed(times(asked[2]), times(asked[1]));
-        io::write_all(STDOUT, &tag);
-        return;
-    }
-    if asked[0] == b'T' {
-        let tag = tagged(times(asked[2]), times(asked[1]));
-        io::write_all(STDOUT, &tag);
-        return;
-    }
-    let w = aes::expand_key([7u8; 16]);
-    let last = chain(asked[0] == b'E', &w, keys_for(&w), times(asked[1]) * 4096);
-    io::write_all(STDOUT, &last);
+    let _ = rt.stdin().read_exact(&mut asked);
+    let [letter, times, order] = asked;
+    let n = value(times);
+    let last = match letter {
+        b'S' => streamed(value(order), n),
+        b'T' => tagged(value(order), n),
+        b'E' => encrypted(4096 * n),
+        _ => four(4096 * n),
+    };
+    let _ = rt.stdout().write_all(&last);
 }
