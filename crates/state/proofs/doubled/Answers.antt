@@ -13,10 +13,10 @@ returns c =
     rw (
       c.xor_word-2.ensures,
       c.xor_word.ensures,
-      c.up_three.ensures,
-      c.up_one-2.ensures,
+      c.up-3.ensures,
+      c.up-2.ensures,
       c.xor_word-three.ensures,
-      c.up_one.ensures,
+      c.up.ensures,
       c.tops-top.ensures,
     )
     (word_agree twice (mul 2) c.args.p b twice_is)
