@@ -4,6 +4,7 @@ ghost use Rattle.laws.specs.Agree.{table};
 ghost use Rattle.aes.specs.Schedule.{word_at, rot_word, x_power, rcon, temp, next_word, schedule};
 
 use crate::substitution::Substitution;
+use std::array;
 
 // x^0 to x^9, the first bytes of Rcon[1] to Rcon[10].
 fn powers() -> [u8; 10]
@@ -28,25 +29,20 @@ fn rot_word(t: [u8; 4]) -> [u8; 4]
     [t[1], t[2], t[3], t[0]]
 }
 
-// Word i of a schedule. `o + 0` is the definition's own index.
+// Word i of a schedule.
 fn word_at(w: &[u8; 176], i: usize) -> [u8; 4]
     requires { i < 44 }
     ensures { result ≡ word_at w.now i }
 {
-    let o = 4 * i;
-    [w[o + 0], w[o + 1], w[o + 2], w[o + 3]]
+    array::from_fn(|j| w[4 * i + j])
 }
 
-// Stores a word at byte o of a schedule, and nothing else. Behind a `&mut` the length is not known, so
-// the caller says it.
+// Stores a word at byte o of a schedule, and nothing else.
 fn put_word(w: &mut [u8; 176], o: usize, t: [u8; 4])
-    requires { (o < 173) × (length w.old ≡ 176) }
+    requires { o < 173 }
     ensures { w.new ≡ take o w.old ++ t ++ drop (o + 4) w.old }
 {
-    w[o] = t[0];
-    w[o + 1] = t[1];
-    w[o + 2] = t[2];
-    w[o + 3] = t[3];
+    w[o..o + 4].copy_from_slice(&t);
 }
 
 // What is added to w[i-4] to get w[i], where t is w[i-1].
@@ -74,11 +70,7 @@ fn begun(key: [u8; 16]) -> [u8; 176]
     ensures { take 16 result ≡ key }
 {
     let mut w = [0u8; 176];
-    let mut i: usize = 0;
-    while i < 16 {
-        w[i] = key[i];
-        i += 1;
-    }
+    w[..16].copy_from_slice(&key);
     w
 }
 
@@ -87,11 +79,9 @@ pub(crate) fn expand(sub: &Substitution, key: [u8; 16]) -> [u8; 176]
     ensures { result ≡ schedule key }
 {
     let mut w = begun(key);
-    let mut n: usize = 0;
-    while n < 40 {
-        let t = next_word(sub, &w, n + 4);
-        put_word(&mut w, 4 * n + 16, t);
-        n += 1;
+    for i in 4..44 {
+        let t = next_word(sub, &w, i);
+        put_word(&mut w, 4 * i, t);
     }
     w
 }

@@ -5,19 +5,14 @@ ghost use Rattle.aes.specs.Cipher.{round_key, unkeyed_round, keyed_round, last_r
 ghost use Rattle.aes.specs.FourRounds.{four_rounds};
 
 use crate::substitution::Substitution;
+use std::array;
 
-// Row r of round key i of a schedule. `o + (r + 0)` is the definition's own index.
+// Row r of round key i of a schedule.
 fn key_row(w: &[u8; 176], i: usize, r: usize) -> [u8; 4]
     requires { (i < 11) × (r < 4) }
     ensures { result ≡ word (λ c. get_or w.now (16 * i + (r + 4 * c)) 0) }
 {
-    let o = 16 * i;
-    [
-        w[o + (r + 0)],
-        w[o + (r + 4)],
-        w[o + (r + 8)],
-        w[o + (r + 12)],
-    ]
+    array::from_fn(|c| w[16 * i + (r + 4 * c)])
 }
 
 // Round key i of a schedule, as a state.
@@ -59,9 +54,7 @@ fn nine<'a>(sub: &'a Substitution, w: &'a [u8; 176], s0: [[u8; 4]; 4]) -> [[u8; 
     ensures { result ≡ rounds w.now s0 9 }
 {
     let mut s = s0;
-    let mut i: usize = 0;
-    while i < 9 {
-        i += 1;
+    for i in 1..10 {
         let next = keyed(sub, s, round_key(w, i));
         s = next;
     }

@@ -1,25 +1,24 @@
--- `aes::expand::expand` meets its contract. After n turns the key and n words more stand at the front; 40 - n turns are left.
+-- `aes::expand::expand` meets its contract. Before word i is made, the key and i - 4 words more stand at the front.
 -- Assumes nothing.
-use mathlib.Core.Path.{◌∙◌, ap}
-use native.Mathlib.Omega.{arith}
+use Rattle.std.proofs.Common.{rules, ◌≡◌, ◌∙◌, ap, ◌+◌, ◌-◌, ◌*◌, ◌≤◌, ◌<◌, arith}
 use Rattle.aes.specs.Schedule.{schedule}
 use Rattle.aes.proofs.Filled.{filled_key, filled_more, filled_all}
-use borrow.Author.Rules.{rules}
 use Rattle.aes.proofs.expand.expand.Goals as goal
 
-pub loop-n-init : goal.loop-n-init
-loop-n-init c = (search rules, filled_key c.begun-w.result (search rules))
+pub loop-i-init : goal.loop-i-init
+loop-i-init c = filled_key c.begun-w.result (search rules)
 
-pub put_word-requires : goal.put_word-requires
-put_word-requires c =
-    let f = c.loop-n.invariant.1 in
-    (search rules, f.room)
-
-pub loop-n-preserved : goal.loop-n-preserved
-loop-n-preserved c =
-    let f = c.loop-n.invariant.1 in
-    (search rules, filled_more f (search rules) c.next_word-t.ensures c.put_word.ensures)
+pub loop-i-preserved : goal.loop-i-preserved
+loop-i-preserved c =
+    let i = c.loop-i.i in
+    let low : 4 ≤ i = search rules in
+    let high : i < 44 = search rules in
+    let more : i + 1 - 4 ≡ i - 4 + 1 = omega arith in
+    let at : i - 4 + 4 ≡ i = omega arith in
+    let place : 4 * (i - 4) + 16 ≡ 4 * i = omega arith in
+    rw more
+    (filled_more {t = c.next_word-t.result} c.loop-i.invariant (omega arith) (rw at c.next_word-t.ensures)
+    (rw place c.put_word.ensures))
 
 pub returns : goal.returns
-returns c =
-    filled_all c.loop-n.invariant.1 (omega arith) ∙ ap schedule c.begun-w.ensures
+returns c = filled_all c.loop-i.invariant (search rules) ∙ ap schedule c.begun-w.ensures

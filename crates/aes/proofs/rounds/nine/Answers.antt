@@ -1,25 +1,24 @@
--- `aes::rounds::nine` meets its contract. After i turns the state is that of i rounds; 9 - i turns are left.
+-- `aes::rounds::nine` meets its contract. Before round i the state is that of i - 1 rounds.
 -- Assumes nothing.
-use mathlib.Core.Path.{◌≡◌, ◌∙◌, ap, ap₂, refl}
-use native.Mathlib.Numerals.{add-one}
-use native.Mathlib.Omega.{arith}
-use Rattle.aes.specs.Cipher.{keyed_round, rounds}
-use borrow.Author.Rules.{rules}
+use Rattle.std.proofs.Common.{rules, ◌≡◌, ◌∙◌, ap, ap₂, refl, sym, ◌+◌, ◌-◌, ◌≤◌, suc, arith}
+use Rattle.aes.specs.Cipher.{keyed_round, rounds, round_key}
 use Rattle.aes.proofs.rounds.nine.Goals as goal
 
 pub loop-i-init : goal.loop-i-init
 unfolding rounds
-loop-i-init c = (search rules, refl)
+loop-i-init c = refl
 
 pub loop-i-preserved : goal.loop-i-preserved
 unfolding rounds
-loop-i-preserved c = (
-  search rules,
-  rw add-one
-      (c.keyed-next.ensures ∙ ap₂ keyed_round c.loop-i.invariant.1 (rw add-one at c.round_key.ensures)),
-)
+loop-i-preserved c =
+    let i = c.loop-i.i in
+    let low : 1 ≤ i = search rules in
+    let more : i + 1 - 1 ≡ suc (i - 1) = omega arith in
+    let at : suc (i - 1) ≡ i = omega arith in
+    let key = c.round_key.ensures ∙ ap (round_key c.args.w.now) (sym at) in
+    rw more (c.keyed-next.ensures ∙ ap₂ keyed_round c.loop-i.invariant key)
 
 pub returns : goal.returns
 returns c =
-    let ninth : c.loop-i.i ≡ 9 = omega arith in
-    c.loop-i.invariant.1 ∙ ap (rounds c.args.w.now c.args.s0) ninth
+    let ninth : c.loop-i.i - 1 ≡ 9 = search rules in
+    c.loop-i.invariant ∙ ap (rounds c.args.w.now c.args.s0) ninth
