@@ -1,13 +1,8 @@
 -- The frame of a body and its line, both ways: it decodes to the frame, of which the body is the body, and the tag the tag.
 -- Assumes nothing.
-use mathlib.Core.Path.{◌≡◌, refl, ap, sym, ◌∙◌}
-use mathlib.Core.Bool.{true}
-use mathlib.Core.Logic.{⊎_elim}
-use mathlib.Core.List.{List, ◌++◌}
-use Prim.Native.Nat.{ℕ, ◌+◌, ◌-◌, ◌≤◌, ◌<◌}
-use native.Mathlib.Omega.{arith}
-use lib.ListN.{length, get_or, take, drop, length-append, take-append-drop, get_or-append}
-use lib.Seq.{take_at, drop_at, length-take-le, get_or-drop, get_or-append-add}
+use Rattle.std.proofs.Common.{◌≡◌, refl, ap, sym, ◌∙◌, true, ⊎_elim, List, ◌++◌, ℕ, ◌+◌, ◌-◌, ◌≤◌, ◌<◌, arith, length, get_or, take, drop}
+use Rattle.std.proofs.Common.{length-append, take-append-drop, take_at, drop_at, length-take-le, get_or-drop, get_or-append-add}
+use Rattle.std.proofs.Math.ListN.{get_or-append}
 use Rattle.laws.proofs.Bytes.{Bytes}
 use Rattle.laws.proofs.Cases.{below_or_not}
 use Rattle.laws.proofs.Fault.{unless_holds}
@@ -23,7 +18,7 @@ use Rattle.hex_line.proofs.Told.{decodes}
 use Rattle.frame.specs.Frame.{body_length, body_of, tag_of, frame_number, frame_answer}
 use Rattle.frame.proofs.Number.{framed, framed_none}
 use Rattle.frame.proofs.Made.{tag_length}
-use Rattle.frame.proofs.Judged.{tag_accepted, checked, is_accepted}
+use Rattle.frame.proofs.Verdict.{tag_accepted, checked, is_accepted}
 use Rattle.writer.specs.Line.{frame_of, line_of}
 use Rattle.writer.proofs.Number.{Fits}
 use Rattle.writer.proofs.TagBits.{tagged_length, tagged_bytes, tagged_spelt}

@@ -1,49 +1,57 @@
 -- The outcome of writing a line, by what was found on the way to it.
 -- Assumes nothing.
-use mathlib.Core.Path.{◌≡◌, ap, ap₂, sym, ◌∙◌}
-use mathlib.Core.List.{List, ◌++◌, append_assoc}
-use Prim.Native.Nat.{ℕ, ◌+◌, ◌-◌, ◌*◌, ◌≤◌}
-use native.Mathlib.Omega.{arith}
-use lib.ListN.{length, take, drop, length-append, length-drop}
-use lib.Seq.{take_at, drop_at, drop-drop}
-use borrow.Author.Tests.{eq-eqb, ne_eqb}
+use Rattle.std.proofs.Common.{◌≡◌, ap, ap₂, sym, ◌∙◌, List, ◌++◌, append_assoc, ℕ, ◌+◌, ◌-◌, ◌*◌, ◌≤◌, arith, length, take, drop}
+use Rattle.std.proofs.Common.{length-append, length-drop, take_at, drop_at, drop-drop, eq-eqb, ne_eqb, Ok, Err}
 use Rattle.laws.proofs.Lent.{lent_rest, lent_back}
 use Rattle.block.specs.Bits.{bytes}
+use Rattle.numbers.specs.declared.Refusal.{Refusal}
+use Rattle.numbers.specs.Told.{number_of}
+use Rattle.numbers.proofs.Number.{not_done}
 use Rattle.keys.specs.declared.KeySet.{KeySet}
-use Rattle.tag.specs.declared.TagAnswer.{TagAnswer}
+use Rattle.tag.specs.declared.Counts.{Counts}
+use Rattle.tag.specs.Told.{TagAnswer, told_made}
 use Rattle.tag.specs.Answer.{made_tag}
 use Rattle.tag.specs.Tag.{tag_bytes}
 use Rattle.tag.proofs.Answered.{making_is, slice_is}
 use Rattle.message.specs.Answer.{message_number, tagged}
 use Rattle.message.specs.Promise.{TagPromise}
 use Rattle.message.proofs.Number.{tags_none}
-use Rattle.hex_line.specs.declared.LineAnswer.{LineAnswer}
+use Rattle.hex_line.specs.Told.{LineAnswer, told_line}
 use Rattle.hex_line.specs.Line.{encoded}
 use Rattle.hex_line.specs.Answer.{encode_number, written_space}
 use Rattle.hex_line.specs.Promise.{EncodePromise}
 use Rattle.hex_line.proofs.BothWays.{encoded_length, encoded_append}
 use Rattle.hex_line.proofs.Outcome.{number_room}
-use Rattle.hex_line.proofs.Told.{written_by}
-use Rattle.writer.specs.declared.Written.{Written}
+use Rattle.hex_line.proofs.Told.{number_by, written_by}
+use Rattle.writer.specs.Told.{Written, told_write}
 use Rattle.writer.specs.Line.{write_number, frame_of, line_of, refused_write, done_write, write_answer}
-use Rattle.writer.specs.Inner.{Appends}
 use Rattle.writer.specs.Promise.{WritePromise}
 use Rattle.writer.proofs.Number.{Fits, writes_told}
 
 -- what is encoded in a space that has room for it stands before what it held
-pub encoded_before : (x space : List ℕ) {r : LineAnswer} {after : List ℕ} → 2 * length x ≤ length space → EncodePromise x space r after
-    → after ≡ encoded x ++ drop (length (encoded x)) space
-encoded_before x space h p =
-    (written_by (encode_number (length space) x) (encoded x) space p (sym (number_room (length space) x h))).1
+module _ (x space : List ℕ) (h : 2 * length x ≤ length space) {after : List ℕ} where
+  pub encoded_before : {r : LineAnswer} → EncodePromise x space r after → after ≡ encoded x ++ drop (length (encoded x)) space
+  encoded_before p = (written_by (encode_number (length space) x) (encoded x) space p (sym (number_room (length space) x h))).1
+
+  -- it is not refused, and is counted
+  pub encoded_all : (n : ℕ) → EncodePromise x space (told_line (Ok n)) after → n ≡ 2 * length x
+  unfolding told_line
+  encoded_all n p =
+      (written_by (encode_number (length space) x) (encoded x) space p (sym (number_room (length space) x h))).0 ∙ encoded_length x
+
+  pub encoded_refused : (why : Refusal) → EncodePromise x space (told_line (Err why)) after → ⊥
+  unfolding told_line
+  encoded_refused why p =
+      not_done why (number_by (encode_number (length space) x) (encoded x) space p ∙ sym (number_room (length space) x h))
 
 module _ (k : KeySet) (body space : List ℕ) where
   -- refused: the answer is the refusal, and the space as it was
-  pub write_refused : {n : ℕ} {r : Written} → n ≡ write_number k (length space) (length body) → (n ≡ 0 → ⊥) → r ≡ refused_write n
-      → WritePromise k body space r space
-  unfolding write_answer written_space
-  write_refused e h q =
-      let fails = ne_eqb (write_number k (length space) (length body)) 0 (λ z. h (e ∙ z)) in
-      (q ∙ rw fails (ap refused_write e), rw fails)
+  pub write_refused : (why : Refusal) → number_of why ≡ write_number k (length space) (length body)
+      → WritePromise k body space (told_write (Err why)) space
+  unfolding told_write refused_write write_answer written_space
+  write_refused why e =
+      let fails = ne_eqb (write_number k (length space) (length body)) 0 (λ z. not_done why (e ∙ z)) in
+      (rw fails (ap refused_write e), rw fails)
 
   -- no fault: 0, the counts, and the line over the front of the space
   pub write_done : {r : Written} {after : List ℕ} → write_number k (length space) (length body) ≡ 0 → r ≡ done_write k body
@@ -79,44 +87,71 @@ module _ (k : KeySet) (body space : List ℕ) where
         tag_answer_is : t ≡ made_tag (tagged k body)
         tag_answer_is = p.0 ∙ making_is _ (tagged k body) none
 
-    -- the body is encoded at the front of the space, and its tag behind it
-    line_laid : {end : ℕ} {tag mid x : List ℕ} {r s : LineAnswer} → end ≡ 2 * length body → tag ≡ bytes (tagged k body).tag
-        → length tag ≡ tag_bytes k.bits → EncodePromise body space r mid
-        → EncodePromise tag (take (length mid - end) (drop end mid)) s x
-        → take end mid ++ (x ++ drop (length mid - end) (drop end mid)) ≡ line_of k body ++ drop (length (line_of k body)) space
-    unfolding frame_of
-    line_laid {end} {tag} {mid} {x} is made size p q =
-        let front = encoded body in
-        let behind = encoded tag in
-        let n : length front ≡ end = encoded_length body ∙ sym is in
-        let m = encoded_length tag in
-        let laid : mid ≡ front ++ drop end space =
-        encoded_before body space (omega (arith, fits.most, room)) p ∙ ap (λ (i : ℕ). front ++ drop i space) n in
-        let left : take (length mid - end) (drop end mid) ≡ drop end space =
-        lent_rest mid end ∙ ap (drop end) laid ∙ drop_at front (drop end space) end n in
-        let some : 2 * length tag ≤ length (drop end space) = simp length-drop (omega (arith, fits.most, room)) in
-        let tag-laid : x ≡ behind ++ drop (length behind) (drop end space) = encoded_before tag (drop end space) some (rw left at q) in
-        let line : front ++ behind ≡ line_of k body =
-        sym (encoded_append body tag) ∙ ap (λ (y : List ℕ). encoded (body ++ y)) made in
-        let long : end + length behind ≡ length (line_of k body) =
-        omega (arith, sym (length-append front behind) ∙ ap length line, n) in
-        lent_back mid x end
-        ∙ ap₂ (λ (y w : List ℕ). y ++ w) (ap (take end) laid ∙ take_at front (drop end space) end n) tag-laid
-        ∙ sym (append_assoc front behind (drop (length behind) (drop end space)))
-        ∙ ap₂ (λ (y w : List ℕ). y ++ w) line (drop-drop (length behind) end space ∙ ap (λ (i : ℕ). drop i space) long)
+        pub tag_refused : (why : Refusal) → t ≡ told_made (Err why) → ⊥
+        unfolding told_made made_tag
+        tag_refused why e = not_done why (ap (λ (a : TagAnswer). a.number) (sym e ∙ tag_answer_is))
 
-    -- so the answer is that of a line written
-    pub written_whole : {n end : ℕ} {slice tag mid x : List ℕ} {t : TagAnswer} {r : LineAnswer} → n ≡ tag_bytes k.bits
-        → end ≡ 2 * length body → length slice ≡ n → length tag ≡ length slice → EncodePromise body space r mid
-        → Appends k body slice (take (length mid - end) (drop end mid)) t tag x
-        → WritePromise k body space (record { number = 0; whole = t.whole; four = t.four; written = end + 2 * n })
-        (take end mid ++ (x ++ drop (length mid - end) (drop end mid)))
-    unfolding done_write made_tag frame_of
-    written_whole {n} {end} {slice} {tag} {mid} {x} {t} e is size same p a =
-        let made = tag_made slice (size ∙ e) a.made in
-        let answer = tag_answer_is slice (size ∙ e) a.made in
-        let long : end + 2 * n ≡ length (line_of k body) =
-        omega (arith, encoded_length (frame_of k body), length-append body (bytes (tagged k body).tag), ap length made, same, size, is) in
-        write_done z
-        (λ i. record { number = 0; whole = (answer i).whole; four = (answer i).four; written = long i })
-        (line_laid is made (same ∙ size ∙ e) p a.laid)
+    pub body_room : 2 * length body ≤ length space
+    body_room = omega (arith, fits.most, room)
+
+    -- the body is encoded at the front of the space, and its tag behind it
+    module _
+        (end : ℕ)
+        (slice tag mid : List ℕ)
+        (t : TagAnswer)
+        (size : length slice ≡ tag_bytes k.bits)
+        (same : length tag ≡ length slice)
+        (made : TagPromise k body slice t tag)
+        (p : EncodePromise body space (told_line (Ok end)) mid)
+      where
+        front_is : length (encoded body) ≡ end
+        front_is = encoded_length body ∙ sym (encoded_all body space body_room end p)
+
+        laid : mid ≡ encoded body ++ drop end space
+        laid = encoded_before body space body_room p ∙ ap (λ (i : ℕ). encoded body ++ drop i space) front_is
+
+        left : take (length mid - end) (drop end mid) ≡ drop end space
+        left = lent_rest mid end ∙ ap (drop end) laid ∙ drop_at (encoded body) (drop end space) end front_is
+
+        pub end_within : end ≤ length mid
+        end_within = omega (arith, ap length laid, length-append (encoded body) (drop end space), front_is)
+
+        tag_room : 2 * length tag ≤ length (take (length mid - end) (drop end mid))
+        tag_room =
+            omega (arith, ap length left, length-drop end space, encoded_length body, front_is, fits.most, room, same, size)
+
+        pub more_refused : {x : List ℕ} (why : Refusal)
+            → EncodePromise tag (take (length mid - end) (drop end mid)) (told_line (Err why)) x → ⊥
+        more_refused why q = encoded_refused tag _ tag_room why q
+
+        module _ {x : List ℕ} (more : ℕ) (q : EncodePromise tag (take (length mid - end) (drop end mid)) (told_line (Ok more)) x) where
+          behind_is : length (encoded tag) ≡ more
+          behind_is = encoded_length tag ∙ sym (encoded_all tag _ tag_room more q)
+
+          line : encoded body ++ encoded tag ≡ line_of k body
+          unfolding frame_of
+          line = sym (encoded_append body tag) ∙ ap (λ (y : List ℕ). encoded (body ++ y)) (tag_made slice size made)
+
+          long : end + more ≡ length (line_of k body)
+          long = omega (arith, sym (length-append (encoded body) (encoded tag)) ∙ ap length line, front_is, behind_is)
+
+          pub line_within : end + more ≤ 510
+          line_within = omega (arith, encoded_length body, encoded_length tag, front_is, behind_is, fits.most, same, size)
+
+          whole : take end mid ++ (x ++ drop (length mid - end) (drop end mid)) ≡ line_of k body ++ drop (length (line_of k body)) space
+          whole =
+              let tag-laid : x ≡ encoded tag ++ drop more (drop end space) =
+              encoded_before tag _ tag_room q ∙ ap₂ (λ (i : ℕ) (y : List ℕ). encoded tag ++ drop i y) behind_is left in
+              lent_back mid x end
+              ∙ ap₂ (λ (y w : List ℕ). y ++ w) (ap (take end) laid ∙ take_at (encoded body) (drop end space) end front_is) tag-laid
+              ∙ sym (append_assoc (encoded body) (encoded tag) (drop more (drop end space)))
+              ∙ ap₂ (λ (y w : List ℕ). y ++ w) line (drop-drop more end space ∙ ap (λ (i : ℕ). drop i space) long)
+
+          -- so the answer is that of a line written
+          pub written_whole : (counts : Counts) → t ≡ told_made (Ok counts)
+              → WritePromise k body space (told_write (Ok (record { counts = counts; length = end + more })))
+              (take end mid ++ (x ++ drop (length mid - end) (drop end mid)))
+          unfolding told_made told_write done_write made_tag
+          written_whole counts e =
+              let answer = sym e ∙ tag_answer_is slice size made in
+              write_done z (λ i. record { number = 0; whole = (answer i).whole; four = (answer i).four; written = long i }) whole

@@ -1,12 +1,7 @@
 -- The number of a body and a space by cases, and what number 0 tells of them, and what it takes.
 -- Assumes nothing.
-use mathlib.Core.Path.{◌≡◌, refl, sym}
-use mathlib.Core.Bool.{Bool}
-use mathlib.Core.List.{[], ◌∷◌}
-use Prim.Native.Nat.{ℕ, ◌+◌, ◌≤◌, ◌<◌}
-use native.Mathlib.Omega.{arith}
-use lib.Dec.{leb}
-use borrow.Author.Tests.{leb-true, le-leb, lt-leb}
+use Rattle.std.proofs.Common.{◌≡◌, refl, sym, Bool, [], ◌∷◌, ℕ, ◌+◌, ◌≤◌, ◌<◌, arith, leb, leb-true, le-leb}
+use borrow.Author.Tests.{lt-leb}
 use Rattle.laws.specs.Agree.{both}
 use Rattle.laws.specs.Fault.{unless}
 use Rattle.laws.proofs.Both.{both_holds}

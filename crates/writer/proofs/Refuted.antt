@@ -1,11 +1,8 @@
 -- Wrong outcomes that the promise does not permit.
 -- Assumes nothing.
-use mathlib.Core.Path.{◌≡◌, refl, ap, sym, ◌∙◌}
-use mathlib.Core.List.{List, ◌++◌}
-use Prim.Native.Nat.{ℕ, ◌+◌, ◌-◌, ◌*◌, ◌/◌, ◌≤◌, ◌<◌}
-use native.Mathlib.Omega.{arith}
-use lib.ListN.{length, get_or, drop, length-append, get_or-append}
-use lib.Seq.{get_or-drop, get_or-append-add}
+use Rattle.std.proofs.Common.{◌≡◌, refl, ap, sym, ◌∙◌, List, ◌++◌, ℕ, ◌+◌, ◌-◌, ◌*◌, ◌/◌, ◌≤◌, ◌<◌, arith, length, get_or, drop}
+use Rattle.std.proofs.Common.{length-append, get_or-drop, get_or-append-add}
+use Rattle.std.proofs.Math.ListN.{get_or-append}
 use Rattle.block.specs.Bits.{bytes}
 use Rattle.keys.specs.declared.KeySet.{KeySet}
 use Rattle.keys.specs.SetNumber.{set_number}
@@ -14,7 +11,7 @@ use Rattle.message.specs.Answer.{tagged}
 use Rattle.hex_line.specs.Digit.{character_of}
 use Rattle.hex_line.proofs.BothWays.{encoded_length, encoded_high}
 use Rattle.frame.specs.Frame.{longest_frame}
-use Rattle.writer.specs.declared.Written.{Written}
+use Rattle.writer.specs.Told.{Written}
 use Rattle.writer.specs.Line.{frame_of, line_of, done_write}
 use Rattle.writer.specs.Promise.{WritePromise}
 use Rattle.writer.proofs.Number.{write_cramped}

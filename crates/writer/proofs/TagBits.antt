@@ -1,12 +1,7 @@
 -- The tag of a message under whichever key set: its bits, its bytes, and the rule of acceptance at it, so that what is written of it is
 -- just what a check of it accepts.
 -- Assumes nothing.
-use mathlib.Core.Path.{◌≡◌}
-use mathlib.Core.Bool.{true}
-use mathlib.Core.Logic.{◌↔◌}
-use mathlib.Core.List.{List}
-use Prim.Native.Nat.{ℕ, ◌≤◌}
-use lib.ListN.{length}
+use Rattle.std.proofs.Common.{◌≡◌, true, ◌↔◌, List, ℕ, ◌≤◌, length}
 use Rattle.laws.proofs.Bytes.{Bytes}
 use Rattle.aes.proofs.Length.{cipher_length}
 use Rattle.block.specs.Bits.{bits, bytes}

@@ -1,17 +1,12 @@
 -- What an outcome of writing a line tells its caller: which number is given, what 0 says, and what then stands in the space.
 -- Assumes nothing.
-use mathlib.Core.Path.{◌≡◌, refl, ap, sym, ◌∙◌}
-use mathlib.Core.Bool.{Bool, true, false}
-use mathlib.Core.List.{List, ◌++◌}
-use Prim.Native.Nat.{ℕ, ◌≤◌}
-use lib.Dec.{eqb}
-use lib.ListN.{length, take, drop}
-use lib.Seq.{take-append_seam}
-use borrow.Author.Tests.{eq-eqb, ne_eqb, eqb-true}
+use Rattle.std.proofs.Common.{◌≡◌, refl, ap, sym, ◌∙◌, Bool, true, false, List, ◌++◌, ℕ, ◌≤◌, eqb, length, take, drop, eq-eqb, ne_eqb}
+use Rattle.std.proofs.Common.{eqb-true}
+use Rattle.std.proofs.Math.Seq.{take-append_seam}
 use Rattle.laws.specs.Pick.{pick}
 use Rattle.keys.specs.declared.KeySet.{KeySet}
 use Rattle.hex_line.specs.Answer.{written_space}
-use Rattle.writer.specs.declared.Written.{Written}
+use Rattle.writer.specs.Told.{Written}
 use Rattle.writer.specs.Line.{least_room, write_number, line_of, refused_write, done_write, write_answer}
 use Rattle.writer.specs.Promise.{WritePromise}
 use Rattle.writer.proofs.Number.{Fits, writes_told}

@@ -1,3 +1,3 @@
-pub mod Inner
 pub mod Line
 pub mod Promise
+pub mod Told

@@ -1,92 +1,61 @@
 // Shore's half of the frame line: a body is given its tag, and both are written in hexadecimal, as a unit
 // aboard is to check them.
 //
-//     let w = writer::write(keys, &body, &mut space);    // w.number is 0, &space[..w.written] the line
+//     let line = writer::write(keys, &body, &mut space)?;    // &space[..line.length] is the line
 #![tactic(auto)]
 
 ghost use Rattle.std.specs.Prelude.{◌≡◌};
-ghost use Rattle.writer.specs.Line.{write_number, refused_write};
-ghost use Rattle.writer.specs.Inner.{Appends};
+ghost use Rattle.numbers.specs.Told.{number};
+ghost use Rattle.writer.specs.Line.{write_number};
+ghost use Rattle.writer.specs.Told.{told_write};
 ghost use Rattle.writer.specs.Promise.{WritePromise};
 
 use frame::LONGEST;
 use keys::KeySet;
-use numbers::{BAD_BODY, BAD_SIZE, DONE};
-use tag::TagAnswer;
+use numbers::Refusal;
+use tag::Counts;
 
 // The least bytes of the space: two characters for each byte of the longest frame, also where the line is
 // shorter.
 pub const LEAST_ROOM: usize = 510;
 
-// What writing a line answers: its number, the steps of each kind that its tag took, and how many
-// characters it has.
+// A line that was written: the steps of each kind that its tag took, and how many characters it has.
 #[derive(Clone, Copy)]
-pub struct Written {
-    pub number: u8,
-    pub whole: usize,
-    pub four: usize,
-    pub written: usize,
+pub struct FrameLine {
+    pub counts: Counts,
+    pub length: usize,
 }
 
 // The first fault of a space of so many bytes and a body of n.
-fn fault(keys: KeySet, room: usize, n: usize) -> u8
-    ensures { result ≡ write_number keys room n }
+fn fault(keys: KeySet, room: usize, n: usize) -> Result<(), Refusal>
+    ensures { number result ≡ write_number keys room n }
 {
-    let set = keys::set_fault(keys);
-    if set != DONE {
-        return set;
-    }
+    keys::set_fault(keys)?;
     if room < LEAST_ROOM {
-        return BAD_SIZE;
+        return Err(Refusal::BadSize);
     }
     if n == 0 {
-        return BAD_BODY;
+        return Err(Refusal::BadBody);
     }
     if n > LONGEST - tag::size(keys.bits) {
-        return BAD_BODY;
+        return Err(Refusal::BadBody);
     }
-    DONE
+    Ok(())
 }
 
-// A refusal carries no counts and no characters.
-fn refused(number: u8) -> Written
-    ensures { result ≡ refused_write number }
+// The line of a body's frame, from the start of a lent space: the body, and behind it its tag. Of a body
+// without a fault the tag is made, and there is room for both.
+pub fn write<'a>(keys: KeySet, body: &'a [u8], space: &'a mut [u8]) -> Result<FrameLine, Refusal>
+    ensures { WritePromise keys body.now space.old (told_write result) space.new }
 {
-    Written {
-        number,
-        whole: 0,
-        four: 0,
-        written: 0,
-    }
-}
-
-// The tag of a body into a lent slice of a tag's size, and the tag's characters to the front of what is left
-// of the space behind the body's.
-fn append<'a>(keys: KeySet, body: &'a [u8], slice: &'a mut [u8], rest: &'a mut [u8]) -> TagAnswer
-    ensures { Appends keys body.now slice.old rest.old result slice.new rest.new }
-{
-    let t = message::tag(keys, body, slice);
-    hex_line::encode(slice, rest);
-    t
-}
-
-// The line of a body's frame, from the start of a lent space: the body, and behind it its tag.
-pub fn write<'a>(keys: KeySet, body: &'a [u8], space: &'a mut [u8]) -> Written
-    ensures { WritePromise keys body.now space.old result space.new }
-{
-    let number = fault(keys, space.len(), body.len());
-    if number != DONE {
-        return refused(number);
-    }
+    fault(keys, space.len(), body.len())?;
     let mut made = [0u8; 16];
-    let n = tag::size(keys.bits);
-    let end = 2 * body.len();
-    hex_line::encode(body, space);
-    let t = append(keys, body, &mut made[..n], &mut space[end..]);
-    Written {
-        number: DONE,
-        whole: t.whole,
-        four: t.four,
-        written: end + 2 * n,
-    }
+    let slice = &mut made[..tag::size(keys.bits)];
+    let counts = message::tag(keys, body, slice)?;
+    let end = hex_line::encode(body, space)?;
+    let more = hex_line::encode(slice, &mut space[end..])?;
+    Ok(FrameLine {
+        counts,
+        length: end + more,
+    })
 }

@@ -1,60 +1,79 @@
--- `writer::write` meets its contract. By the number of the first fault; then the body is laid, and behind it its tag.
+-- `writer::write` meets its contract. By the first fault; then the tag is made, the body is laid, and behind it the tag.
 -- Assumes nothing.
-use mathlib.Core.Path.{◌≡◌, refl, sym, ◌∙◌}
-use Prim.Native.Nat.{◌≤◌}
-use native.Mathlib.Omega.{arith}
-use lib.ListN.{length}
-use lib.Seq.{length-take-le}
+use Rattle.std.proofs.Common.{◌≡◌, sym, ◌∙◌, List, ℕ, ◌+◌, length, take, length-take-le, ◌≤◌, refl, arith, rules}
+use Rattle.std.proofs.lemmas.Result.{err_from_is_err_and}
+use Rattle.numbers.specs.Told.{number}
+use Rattle.tag.specs.Tag.{tag_bytes}
 use Rattle.writer.specs.Line.{write_number}
-use Rattle.writer.proofs.Number.{writes_told}
-use Rattle.writer.proofs.Laid.{write_refused, written_whole}
-use borrow.Author.Rules.{rules}
+use Rattle.writer.proofs.Number.{Fits, writes_told}
+use Rattle.writer.proofs.Laid.{write_refused, tag_refused, body_room, encoded_refused, end_within, more_refused, line_within, written_whole}
 use Rattle.writer.proofs.write.Goals as goal
-use Rattle.writer.proofs.write.Goals.{Else-number-ne-DONE}
+use Rattle.writer.proofs.write.Goals.{In_ok-fault, In_ok-end}
 
 -- no fault was found
-none : (c : Else-number-ne-DONE)
-    → write_number c.args.keys (length c.args.space.now)
-    (length c.args.body.now) ≡ 0
-none c = sym c.fault-number.ensures ∙ c.if-number-ne-DONE.false
+none : (c : In_ok-fault) → write_number c.args.keys (length c.args.space.now) (length c.args.body.now) ≡ 0
+unfolding number
+none c = sym c.in_ok-fault.ensures
 
-pub returns-then-number-ne-DONE : goal.returns-then-number-ne-DONE
-returns-then-number-ne-DONE c = write_refused _ _ _ c.fault-number.ensures c.if-number-ne-DONE.true c.refused.ensures
+fits : (c : In_ok-fault) → Fits c.args.keys (length c.args.body.now)
+fits c = (writes_told _ _ _ (none c)).1
+
+pub returns-in_err-fault : goal.returns-in_err-fault
+unfolding number
+returns-in_err-fault c =
+    let p = err_from_is_err_and c.from_residual.result c.from_residual.ensures.1 in
+    rw (p.1, p.2) (write_refused _ _ _ _ c.in_err-fault.ensures)
 
 pub slice_bounds-made-end : goal.slice_bounds-made-end
-slice_bounds-made-end c =
-    let f = (writes_told _ _ _ (none (goal.at.slice_bounds-made-end c).Else-number-ne-DONE)).1 in
-    omega (arith, c.size-n.ensures, f.set.tag.high)
+slice_bounds-made-end c = omega (arith, c.size.ensures, (fits (goal.at.slice_bounds-made-end c).In_ok-fault).set.tag.high)
 
-pub slice_bounds-append-end : goal.slice_bounds-append-end
-slice_bounds-append-end c =
-    let f = (writes_told _ _ _ (none (goal.at.slice_bounds-append-end c).Else-number-ne-DONE)).1 in
-    sym (length-take-le _ _ (omega (arith, c.size-n.ensures, f.set.tag.high)))
+pub slice_bounds-slice-end : goal.slice_bounds-slice-end
+slice_bounds-slice-end c =
+    sym (length-take-le _ _ (omega (arith, c.size.ensures, (fits (goal.at.slice_bounds-slice-end c).In_ok-fault).set.tag.high)))
 
-pub slice_bounds-append-count : goal.slice_bounds-append-count
-slice_bounds-append-count c =
-    let f = writes_told _ _ _ (none (goal.at.slice_bounds-append-count c).Else-number-ne-DONE) in
-    let r = f.0 in
-    let m = f.1.most in
+-- the slice for the tag is of its size
+sized : (c : In_ok-fault) {n : ℕ} (z : List ℕ) → n ≡ tag_bytes c.args.keys.bits → length z ≡ 16 → length (take n z) ≡ tag_bytes c.args.keys.bits
+sized c z e l = length-take-le _ z (omega (arith, (fits c).set.tag.high)) ∙ e
+
+pub returns-in_err-counts : goal.returns-in_err-counts
+returns-in_err-counts c =
+    let f = (goal.at.returns-in_err-counts c).In_ok-fault in
+    absurd (tag_refused _ _ _ (none f) _ (sized f _ c.size.ensures refl) c.in_err-counts.ensures _ refl)
+
+pub returns-in_err-end : goal.returns-in_err-end
+returns-in_err-end c =
+    let f = (goal.at.returns-in_err-end c).In_ok-fault in
+    absurd (encoded_refused _ _ (body_room _ _ _ (none f)) _ c.in_err-end.ensures)
+
+pub slice_bounds-encode-count : goal.slice_bounds-encode-count
+slice_bounds-encode-count c =
+    let f = (goal.at.slice_bounds-encode-count c).In_ok-fault in
+    end_within _ _ _ (none f) _ _ _ _ _ (sized f _ c.size.ensures refl) (search rules) c.in_ok-counts.ensures c.in_ok-end.ensures
+
+pub slice_bounds-encode-start : goal.slice_bounds-encode-start
+slice_bounds-encode-start c =
+    let f = (goal.at.slice_bounds-encode-start c).In_ok-fault in
+    let h : c.in_ok-end.end ≤ length c.encode.new.space =
+    end_within _ _ _ (none f) _ _ _ _ _ (sized f _ c.size.ensures refl) (search rules) c.in_ok-counts.ensures c.in_ok-end.ensures in
     search rules
 
-pub slice_bounds-append-start : goal.slice_bounds-append-start
-slice_bounds-append-start c =
-    let f = writes_told _ _ _ (none (goal.at.slice_bounds-append-start c).Else-number-ne-DONE) in
-    let r = f.0 in
-    let m = f.1.most in
-    search rules
+pub returns-in_err-more : goal.returns-in_err-more
+returns-in_err-more c =
+    let f = (goal.at.returns-in_err-more c).In_ok-fault in
+    absurd
+    (more_refused _ _ _ (none f) _ _ _ _ _ (sized f _ c.size.ensures refl) (search rules) c.in_ok-counts.ensures c.in_ok-end.ensures _
+    c.in_err-more.ensures)
 
 pub overflow_add-result : goal.overflow_add-result
 overflow_add-result c =
-    let f = (writes_told _ _ _ (none (goal.at.overflow_add-result c).Else-number-ne-DONE)).1 in
-    let m = f.most in
-    let n = c.size-n.ensures in
+    let f = (goal.at.overflow_add-result c).In_ok-fault in
+    let h : c.in_ok-end.end + c.in_ok-more.more ≤ 510 =
+    line_within _ _ _ (none f) _ _ _ _ _ (sized f _ c.size.ensures refl) (search rules) c.in_ok-counts.ensures c.in_ok-end.ensures _
+    c.in_ok-more.ensures in
     search rules
 
 pub returns : goal.returns
 returns c =
-    let f = (writes_told _ _ _ (none (goal.at.returns c).Else-number-ne-DONE)).1 in
-    let few : c.size-n.result ≤ 16 = omega (arith, c.size-n.ensures, f.set.tag.high) in
-    written_whole _ _ _ (none (goal.at.returns c).Else-number-ne-DONE) c.size-n.ensures refl (length-take-le _ _ few) (search rules)
-    c.encode.ensures c.append-t.ensures
+    let f = (goal.at.returns c).In_ok-fault in
+    written_whole _ _ _ (none f) _ _ _ _ _ (sized f _ c.size.ensures refl) (search rules) c.in_ok-counts.ensures c.in_ok-end.ensures _
+    c.in_ok-more.ensures _ refl
