@@ -35,7 +35,10 @@ pub enum Refusal {
     BadBody = 10,
 }
 
-// The number that is told of an outcome: 0 where it is no refusal.
+// The number that is told of an outcome: 0 where it is no refusal. Out of line, so that it stays a choice of two
+// values and becomes no branch of the caller's: then a wrong tag takes as many instructions as the right one
+// (bench/same).
+#[inline(never)]
 pub fn told(outcome: Result<(), Refusal>) -> u8
     ensures { ToldPromise outcome result }
 {
