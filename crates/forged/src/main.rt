@@ -9,10 +9,10 @@
 
 ghost use Rattle.std.specs.Prelude.{◌≤◌};
 
+use frame::FrameAnswer;
 use keys::KeySet;
-
-// The file descriptor of standard output.
-const STDOUT: i32 = 1;
+use numbers::told;
+use std::io::{Read, Write};
 
 // What is tagged.
 const BODY: [u8; 100] = [5; 100];
@@ -21,63 +21,59 @@ const BODY: [u8; 100] = [5; 100];
 fn bytes_of(bits: u8) -> usize
     ensures { result ≤ 16 }
 {
-    let n = tag::size(bits);
-    if n < 16 { n } else { 16 }
+    tag::size(bits).min(16)
+}
+
+// The key set of a tag length, zeros where there is none.
+fn set_for(bits: usize) -> KeySet {
+    match keys::key_call(2, bits, &[7u8; 16], &[9u8; 16]) {
+        Ok(made) => made.keys,
+        Err(_) => keys::no_set(),
+    }
 }
 
 // The tag, with the bits of the mask flipped.
 fn spoilt(set: KeySet, mask: [u8; 16]) -> [u8; 16] {
     let mut tag = [0u8; 16];
     let n = bytes_of(set.bits);
-    message::tag(set, &BODY, &mut tag[..n]);
+    let _ = message::tag(set, &BODY, &mut tag[..n]);
     block::xor(tag, mask)
 }
 
 // The body, and a tag behind it.
 fn frame_of(tag: [u8; 16]) -> [u8; 116] {
-    let mut frame = [5u8; 116];
-    let mut i: usize = 0;
-    while i < 16 {
-        frame[100 + i] = tag[i];
-        i += 1;
-    }
+    let mut frame = [0u8; 116];
+    frame[..100].copy_from_slice(&BODY);
+    frame[100..].copy_from_slice(&tag);
     frame
 }
 
 // What a call answers to the tag, its number and the body's length; zeros for no call.
 fn answer_of(call: u8, set: KeySet, tag: [u8; 16]) -> [u8; 2] {
     let n = bytes_of(set.bits);
-    if call == b'V' {
-        let v = message::verify(set, &BODY, &tag[..n]);
-        return [v.number, 0];
+    match call {
+        b'V' => [told(message::verify(set, &BODY, &tag[..n]).outcome), 0],
+        b'C' => {
+            let start = stream::start();
+            let added = stream::add(set, start, &BODY).unwrap_or(start);
+            [told(stream::check(set, added, &tag[..n]).outcome), 0]
+        }
+        b'J' => {
+            let v = FrameAnswer::from(frame::judge(set, &frame_of(tag)[..100 + n]));
+            [v.number, (v.body % 256) as u8]
+        }
+        _ => [0, 0],
     }
-    if call == b'C' {
-        let added = stream::add(set, stream::start(), &BODY);
-        let v = stream::check(set, added.stream, &tag[..n]);
-        return [v.number, 0];
-    }
-    if call == b'J' {
-        let frame = frame_of(tag);
-        let end = 100 + n;
-        let v = frame::judge(set, &frame[..end]);
-        let body = (v.body % 256) as u8;
-        return [v.number, body];
-    }
-    [0, 0]
 }
 
-// A byte as a number; asked of an element of an array in place, this would want a proof that it fits.
-fn wide(byte: u8) -> usize {
-    byte as usize
-}
-
-fn main() {
+// Of an input that is too short the rest is zeros.
+fn main(rt: HostRuntime) {
     let mut asked = [0u8; 18];
-    io::read_full(0, &mut asked);
-    let made = keys::key_call(2, wide(asked[1]), &[7u8; 16], &[9u8; 16]);
-    let set = made.keys;
-    let answer = answer_of(asked[0], set, spoilt(set, block::read(&asked, 2)));
+    let _ = rt.stdin().read_exact(&mut asked);
+    let [call, bits, ..] = asked;
+    let set = set_for(usize::from(bits));
+    let answer = answer_of(call, set, spoilt(set, block::read(&asked, 2)));
     let mut text = [b'\n'; 5];
-    hex_line::encode(&answer, &mut text);
-    io::write_all(STDOUT, &text);
+    let _ = hex_line::encode(&answer, &mut text);
+    let _ = rt.stdout().write_all(&text);
 }
