@@ -1,11 +1,6 @@
 -- What it tells that there is no fault, and what it takes.
 -- Assumes nothing.
-use mathlib.Core.Path.{◌≡◌}
-use mathlib.Core.Bool.{false}
-use Prim.Native.Nat.{ℕ, ◌-◌, ◌*◌, ◌≤◌}
-use native.Mathlib.Omega.{arith}
-use lib.Dec.{leb}
-use borrow.Author.Tests.{leb-true, le-leb}
+use Rattle.std.proofs.Common.{◌≡◌, false, ℕ, ◌-◌, ◌*◌, ◌≤◌, arith, leb, leb-true, le-leb}
 use Rattle.laws.proofs.Fault.{unless_holds, unless_none}
 use Rattle.laws.proofs.Up.{up_most}
 use Rattle.block.specs.Block.{blocks}

@@ -1,11 +1,8 @@
 -- The well-formed rule as a record of facts, and the test that decides it.
 -- Assumes nothing.
-use mathlib.Core.Path.{◌≡◌, refl, ◌∙◌}
-use mathlib.Core.Bool.{Bool, true, false}
-use Prim.Native.Nat.{ℕ, ◌≤◌, ◌<◌}
-use lib.Dec.{leb, ltb, eqb}
-use lib.ListN.{drop}
-use borrow.Author.Tests.{leb-true, eqb-true, le-leb, lt-leb, lt-ltb, eq-eqb}
+use Rattle.std.proofs.Common.{◌≡◌, refl, ◌∙◌, Bool, true, false, ℕ, ◌≤◌, ◌<◌, leb, ltb, eqb, drop, leb-true, eqb-true, le-leb, lt-ltb}
+use Rattle.std.proofs.Common.{eq-eqb}
+use borrow.Author.Tests.{lt-leb}
 use Rattle.laws.specs.Agree.{both}
 use Rattle.laws.specs.Pick.{pick}
 use Rattle.laws.proofs.Both.{both_holds}

@@ -1,7 +1,7 @@
 -- The fault of a message that is too long, tested on a sum that may stop at the highest number there is.
 -- Assumes nothing.
-use Rattle.std.proofs.Common.{◌≡◌, refl, ap, Bool, true, false, ℕ, ◌+◌, ◌-◌, ◌^◌, min, leb, arith}
-use borrow.Author.Tests.{leb-true, leb-false, le-leb, lt-leb}
+use Rattle.std.proofs.Common.{◌≡◌, refl, ap, Bool, true, false, ℕ, ◌+◌, ◌-◌, ◌^◌, min, leb, arith, leb-true, leb-false, le-leb}
+use borrow.Author.Tests.{lt-leb}
 use Rattle.laws.specs.Fault.{unless}
 use Rattle.pcmac.specs.Limits.{message_limit}
 use Rattle.judge.specs.Fault.{length_number}

@@ -1,11 +1,6 @@
 -- Wrong outcomes that the promises do not permit.
 -- Assumes nothing.
-use mathlib.Core.Path.{◌≡◌, refl, sym, ◌∙◌}
-use mathlib.Core.Bool.{Bool, true, false}
-use mathlib.Core.List.{[], ◌∷◌}
-use Prim.Native.Nat.{ℕ, ◌+◌, ◌≤◌, ◌<◌}
-use native.Mathlib.Omega.{arith}
-use borrow.Author.Tests.{le-leb}
+use Rattle.std.proofs.Common.{◌≡◌, refl, sym, ◌∙◌, Bool, true, false, [], ◌∷◌, ℕ, ◌+◌, ◌≤◌, ◌<◌, arith, le-leb}
 use Rattle.laws.specs.Fault.{unless}
 use Rattle.laws.proofs.Fault.{fault_found, fault_pass, fault_last}
 use Rattle.chain.specs.Count.{whole_for}

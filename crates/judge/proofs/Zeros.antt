@@ -1,14 +1,8 @@
 -- Lists of zeros: from a place on, one byte after the other, and what the test tells.
 -- Assumes nothing.
-use Rattle.std.proofs.Common.{IsTrue, ◌↔◌, EachIndex, Bool}
-use mathlib.Core.Path.{◌≡◌, refl, ap, sym, ◌∙◌}
-use mathlib.Core.Bool.{true, false}
-use mathlib.Core.List.{List, [], ◌∷◌}
-use Prim.Native.Nat.{ℕ, zero, suc}
-use native.Mathlib.Omega.{arith}
-use lib.Dec.{eqb}
-use lib.ListN.{length, get_or, replicate, get_or-replicate}
-use borrow.Author.Tests.{eqb-true, eq-eqb}
+use Rattle.std.proofs.Common.{IsTrue, ◌↔◌, EachIndex, Bool, ◌≡◌, refl, ap, sym, ◌∙◌, true, false, List, [], ◌∷◌, ℕ, zero, suc, arith, eqb}
+use Rattle.std.proofs.Common.{length, get_or, replicate, eqb-true, eq-eqb}
+use Rattle.std.proofs.Math.ListN.{get_or-replicate}
 use Rattle.laws.proofs.Both.{both_holds}
 use Rattle.judge.specs.Stream.{all_zero}
 

@@ -1,8 +1,6 @@
 -- The accessors by cases: within their places, and outside them.
 -- Assumes nothing.
-use mathlib.Core.Path.{◌≡◌}
-use mathlib.Core.List.{List}
-use Prim.Native.Nat.{ℕ, ◌+◌, ◌-◌, ◌*◌, ◌≤◌}
+use Rattle.std.proofs.Common.{◌≡◌, List, ℕ, ◌+◌, ◌-◌, ◌*◌, ◌≤◌}
 use Rattle.laws.proofs.UpTo.{up_to_is}
 use Rattle.keys.specs.Arrangement.{place_at, u_part, x_key}
 

@@ -1,13 +1,8 @@
 -- What stands in a key set that the key call made: the subkeys of KEYSCH, zeros beyond the order, 4d - 1 steps; and so the tag under it is
 -- TAGGEN's of K and L.
 -- Assumes nothing.
-use mathlib.Core.Path.{◌≡◌, refl, ap, sym, ◌∙◌}
-use mathlib.Core.List.{List}
-use Prim.Native.Nat.{ℕ, ◌+◌, ◌-◌, ◌*◌, ◌/◌, ◌%◌, ◌≤◌, ◌<◌}
-use native.Mathlib.Omega.{arith}
-use lib.ListN.{length, get_or}
-use lib.Seq.{ext_get_or}
-use borrow.Author.Tests.{eq-eqb}
+use Rattle.std.proofs.Common.{◌≡◌, refl, ap, sym, ◌∙◌, List, ℕ, ◌+◌, ◌-◌, ◌*◌, ◌/◌, ◌%◌, ◌≤◌, ◌<◌, arith, length, get_or, ext_get_or}
+use Rattle.std.proofs.Common.{eq-eqb}
 use Rattle.laws.proofs.Agree.{table_length, table_at}
 use Rattle.block.specs.Block.{Block, zeros}
 use Rattle.pcmac.specs.Keysch.{U, X, KEYSCH}

@@ -1,11 +1,9 @@
 -- A block copied over the bytes of its place.
 -- Assumes nothing.
-use Rattle.std.proofs.Common.{◌≡◌, sym, ap, ◌∙◌, List, ℕ, ◌+◌, ◌-◌, ◌*◌, ◌/◌, ◌%◌, ◌≤◌, ◌<◌, length, get_or, take, drop, arith}
+use Rattle.std.proofs.Common.{◌≡◌, sym, ap, ◌∙◌, List, ℕ, ◌+◌, ◌-◌, ◌*◌, ◌/◌, ◌%◌, ◌≤◌, ◌<◌, length, get_or, take, drop, arith, ⊎_elim}
+use Rattle.std.proofs.Common.{length-append, length-drop, ext_get_or, length-take-le, eq-eqb, ne_eqb}
+use Rattle.std.proofs.Math.ListN.{get_or-append}
 use Rattle.std.proofs.lemmas.List.{get_or-take, get_or-drop, get_or-append_right}
-use mathlib.Core.Logic.{⊎_elim}
-use lib.ListN.{length-append, length-drop, get_or-append}
-use lib.Seq.{ext_get_or, length-take-le}
-use borrow.Author.Tests.{eq-eqb, ne_eqb}
 use borrow.Rule.Slice.PartMut.{put_mid}
 use Rattle.laws.proofs.Agree.{table_length, table_at}
 use Rattle.laws.proofs.Cases.{below_or_not}

@@ -1,18 +1,11 @@
 -- The key call's number by cases, and what number 0 tells; what is meant by an order and a tag length, 0 among them.
 -- Assumes nothing.
-use mathlib.Core.Path.{◌≡◌, refl, ap, ◌∙◌}
-use Rattle.std.specs.Prelude.{Err}
+use Rattle.std.proofs.Common.{◌≡◌, refl, ap, ◌∙◌, Err, Bool, true, false, List, ℕ, zero, suc, ◌≤◌, ◌<◌, arith, eqb, ltb, length, lt-ltb}
+use Rattle.std.proofs.Common.{le-ltb, ltb-false, eq-eqb, ne_eqb, eqb-true}
 use Rattle.numbers.specs.declared.Refusal.{Refusal}
 use Rattle.numbers.specs.Told.{number}
 use Rattle.numbers.proofs.Number.{not_done}
 use Rattle.keys.specs.Told.{told_keys}
-use mathlib.Core.Bool.{Bool, true, false}
-use mathlib.Core.List.{List}
-use Prim.Native.Nat.{ℕ, zero, suc, ◌≤◌, ◌<◌}
-use native.Mathlib.Omega.{arith}
-use lib.Dec.{eqb, ltb}
-use lib.ListN.{length}
-use borrow.Author.Tests.{lt-ltb, le-ltb, ltb-false, eq-eqb, ne_eqb, eqb-true}
 use Rattle.laws.specs.Agree.{both}
 use Rattle.laws.specs.Pick.{pick}
 use Rattle.laws.proofs.UpTo.{Within}

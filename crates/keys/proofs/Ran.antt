@@ -1,10 +1,6 @@
 -- Steps taken one after the other: from the start, by one step more, to the end.
 -- Assumes nothing.
-use mathlib.Core.Path.{◌≡◌, refl, ap, ◌∙◌}
-use mathlib.Core.List.{List}
-use Prim.Native.Nat.{ℕ, zero, suc, ◌+◌, ◌-◌, ◌*◌, ◌≤◌, ◌<◌}
-use native.Mathlib.Numerals.{add-one}
-use native.Mathlib.Omega.{arith}
+use Rattle.std.proofs.Common.{◌≡◌, refl, ap, ◌∙◌, List, ℕ, zero, suc, ◌+◌, ◌-◌, ◌*◌, ◌≤◌, ◌<◌, add-one, arith}
 use Rattle.aes.specs.Cipher.{cipher}
 use Rattle.block.specs.Block.{Block, ◌⊕◌, numbered}
 use Rattle.pcmac.proofs.Keysch.{made}

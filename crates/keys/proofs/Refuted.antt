@@ -1,10 +1,6 @@
 -- Wrong outcomes that the promises do not permit, for every input that tells them apart, or at one.
 -- Assumes nothing.
-use mathlib.Core.Path.{◌≡◌, refl, sym, ap, ◌∙◌}
-use mathlib.Core.List.{List, ◌∷◌}
-use Prim.Native.Nat.{ℕ, ◌+◌, ◌-◌, ◌≤◌, ◌<◌}
-use native.Mathlib.Omega.{arith}
-use lib.ListN.{length, get_or, replicate}
+use Rattle.std.proofs.Common.{◌≡◌, refl, sym, ap, ◌∙◌, List, ◌∷◌, ℕ, ◌+◌, ◌-◌, ◌≤◌, ◌<◌, arith, length, get_or, replicate}
 use Rattle.laws.proofs.UpTo.{up_to_is}
 use Rattle.block.specs.Bits.{binary, bits, value, bytes}
 use Rattle.block.specs.Block.{Block, zeros, ◌⊕◌, shifted, msb, reduction, mul2}

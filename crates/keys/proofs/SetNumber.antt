@@ -1,10 +1,6 @@
 -- A tag length's number and a key set's by cases, and what number 0 tells.
 -- Assumes nothing.
-use mathlib.Core.Path.{◌≡◌, refl}
-use mathlib.Core.Bool.{true, false}
-use mathlib.Core.List.{[], ◌∷◌}
-use Prim.Native.Nat.{ℕ}
-use native.Mathlib.Omega.{arith}
+use Rattle.std.proofs.Common.{◌≡◌, refl, true, false, [], ◌∷◌, ℕ, arith}
 use Rattle.laws.specs.Fault.{unless}
 use Rattle.laws.specs.UpTo.{up_to}
 use Rattle.laws.proofs.Fault.{unless_holds, unless_fails, unless_none, fault_found, fault_pass, fault_last, none_of_two}

@@ -1,9 +1,6 @@
 -- What number 0 tells of a call over a whole message, and what it takes.
 -- Assumes nothing.
-use mathlib.Core.Path.{◌≡◌, refl, sym}
-use mathlib.Core.Bool.{false}
-use Prim.Native.Nat.{ℕ, ◌≤◌}
-use native.Mathlib.Omega.{arith}
+use Rattle.std.proofs.Common.{◌≡◌, refl, sym, false, ℕ, ◌≤◌, arith}
 use Rattle.laws.proofs.Fault.{fault_found, fault_pass, none_of_four, four_none}
 use Rattle.pcmac.specs.Limits.{message_limit}
 use Rattle.keys.specs.declared.KeySet.{KeySet}

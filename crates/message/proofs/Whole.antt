@@ -1,11 +1,7 @@
 -- A whole message through the engine: the chain of Algorithm 2.2 before the last block, the last block, and the tag.
 -- Assumes nothing.
-use mathlib.Core.Path.{◌≡◌, ap, ap₂, sym, ◌∙◌}
-use mathlib.Core.List.{List}
-use Prim.Native.Nat.{ℕ, ◌+◌, ◌-◌, ◌*◌, ◌/◌, ◌≤◌, ◌<◌}
-use native.Mathlib.Omega.{arith}
-use lib.ListN.{length, take, drop, length-drop, take-append-drop}
-use lib.Seq.{length-take-le}
+use Rattle.std.proofs.Common.{◌≡◌, ap, ap₂, sym, ◌∙◌, List, ℕ, ◌+◌, ◌-◌, ◌*◌, ◌/◌, ◌≤◌, ◌<◌, arith, length, take, drop, length-drop}
+use Rattle.std.proofs.Common.{take-append-drop, length-take-le}
 use Rattle.laws.specs.Up.{up}
 use Rattle.laws.proofs.Up.{up_most}
 use Rattle.block.specs.Block.{Block, zeros, blocks, block_of, sixteen}

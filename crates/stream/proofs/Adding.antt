@@ -1,11 +1,8 @@
 -- A well-formed stream with a part more, as code puts it together.
 -- Assumes nothing.
-use mathlib.Core.Path.{◌≡◌, refl, ap, sym, ◌∙◌}
-use mathlib.Core.List.{List, ◌++◌}
-use Prim.Native.Nat.{ℕ, ◌+◌, ◌-◌, ◌*◌, ◌/◌, ◌≤◌, ◌<◌}
-use native.Mathlib.Omega.{arith}
-use lib.ListN.{length, take, drop, length-drop}
-use lib.Seq.{length-take-le, take-append-add}
+use Rattle.std.proofs.Common.{◌≡◌, refl, ap, sym, ◌∙◌, List, ◌++◌, ℕ, ◌+◌, ◌-◌, ◌*◌, ◌/◌, ◌≤◌, ◌<◌, arith, length, take, drop}
+use Rattle.std.proofs.Common.{length-drop, length-take-le}
+use Rattle.std.proofs.Math.Seq.{take-append-add}
 use Rattle.block.specs.Block.{Block, sixteen}
 use Rattle.block.proofs.Sixteen.{sixteen_long}
 use Rattle.chain.specs.declared.Chain.{Chain}

@@ -1,9 +1,6 @@
 -- A well-formed stream of at least one byte, closed: from the engine's closing step, the tag and the counts of its definition.
 -- Assumes nothing.
-use mathlib.Core.Path.{◌≡◌, ap, ◌∙◌}
-use Prim.Native.Nat.{ℕ, ◌≤◌}
-use native.Mathlib.Omega.{arith}
-use lib.ListN.{length, replicate}
+use Rattle.std.proofs.Common.{◌≡◌, ap, ◌∙◌, ℕ, ◌≤◌, arith, length, replicate}
 use Rattle.block.specs.Block.{blocks, zeros}
 use Rattle.chain.specs.declared.Chain.{Chain}
 use Rattle.keys.specs.declared.KeySet.{KeySet}

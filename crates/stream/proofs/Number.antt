@@ -1,12 +1,6 @@
 -- What number 0 tells of a call over a stream, and what it takes.
 -- Assumes nothing.
-use mathlib.Core.Path.{◌≡◌, refl, ap, sym, ◌∙◌}
-use mathlib.Core.Bool.{false}
-use mathlib.Core.List.{List}
-use Prim.Native.Nat.{ℕ, ◌+◌, ◌≤◌}
-use native.Mathlib.Omega.{arith}
-use lib.ListN.{length}
-use borrow.Author.Tests.{eq-eqb, ne_eqb}
+use Rattle.std.proofs.Common.{◌≡◌, refl, ap, sym, ◌∙◌, false, List, ℕ, ◌+◌, ◌≤◌, arith, length, eq-eqb, ne_eqb, Ok, Err}
 use Rattle.laws.proofs.Cases.{none_told}
 use Rattle.laws.proofs.Fault.{unless_fails, fault_found, fault_pass, none_of_three, three_none, none_of_four}
 use Rattle.chain.specs.Walk.{Step}
@@ -26,7 +20,6 @@ use Rattle.judge.specs.Stream.{formed}
 use Rattle.judge.specs.Fault.{stream_number, length_number, empty_number}
 use Rattle.judge.proofs.Formed.{Formed}
 use Rattle.judge.proofs.Faultless.{stream_formed, formed_stream, length_fits, fits_length, empty_some}
-use Rattle.std.specs.Prelude.{Ok, Err}
 use Rattle.numbers.specs.declared.Refusal.{Refusal}
 use Rattle.numbers.specs.Told.{number}
 use Rattle.numbers.proofs.Number.{not_done}

@@ -1,13 +1,7 @@
 -- Which answer a call gives, by the number of its first fault; and that the engine's closing step gives the tag of Algorithm 2.2.
 -- Assumes nothing.
-use mathlib.Core.Path.{◌≡◌, refl, ap, sym, ◌∙◌}
-use mathlib.Core.Bool.{Bool, true, false}
-use mathlib.Core.List.{List}
-use Prim.Native.Nat.{ℕ, zero, suc, ◌≤◌}
-use native.Mathlib.Omega.{arith}
-use lib.Dec.{eqb}
-use lib.ListN.{length}
-use borrow.Author.Tests.{eq-eqb, ne_eqb, eqb-true}
+use Rattle.std.proofs.Common.{◌≡◌, refl, ap, sym, ◌∙◌, Bool, true, false, List, ℕ, zero, suc, ◌≤◌, arith, eqb, length, eq-eqb, ne_eqb}
+use Rattle.std.proofs.Common.{eqb-true, Ok, Err}
 use Rattle.laws.specs.Pick.{pick}
 use Rattle.laws.proofs.UpTo.{Within}
 use Rattle.aes.proofs.Length.{cipher_length}
@@ -23,7 +17,6 @@ use Rattle.engine.proofs.Together.{engine_sealed}
 use Rattle.tag.specs.Fault.{tag_number}
 use Rattle.tag.specs.Tag.{tag_bytes}
 use Rattle.tag.specs.Answer.{tagged_by, refused_tag, made_tag, checked_tag, making_answer, making_slice, checking_answer}
-use Rattle.std.specs.Prelude.{Ok, Err}
 use Rattle.numbers.specs.declared.Refusal.{Refusal}
 use Rattle.numbers.specs.Told.{number, number_of}
 use Rattle.numbers.proofs.Number.{not_done}

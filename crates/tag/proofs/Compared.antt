@@ -1,20 +1,12 @@
 -- A received tag against the tag that was made, as blocks with zeros behind them, by what is gathered of the two.
 -- Assumes nothing.
-use mathlib.Core.Path.{◌≡◌, refl, ap, ap₂, sym, ◌∙◌}
-use mathlib.Core.Bool.{Bool, true, false}
-use mathlib.Core.List.{List}
-use Prim.Native.Nat.{ℕ, ◌≤◌}
-use native.Mathlib.Omega.{arith}
-use lib.Dec.{eqb}
-use lib.ListN.{length}
-use borrow.Author.Tests.{eq-eqb, eqb-true}
+use Rattle.std.proofs.Common.{◌≡◌, refl, ap, ap₂, sym, ◌∙◌, Bool, true, false, List, ℕ, ◌≤◌, arith, eqb, length, eq-eqb, eqb-true, Result}
 use Rattle.laws.proofs.Bytes.{Bytes, bytes_take}
 use Rattle.laws.specs.Pick.{pick}
 use Rattle.block.specs.Bits.{bits, bytes}
 use Rattle.block.specs.Block.{cut, sixteen}
 use Rattle.block.proofs.Sixteen.{sixteen_length, sixteen_front, sixteen_once}
 use Rattle.chain.specs.declared.Chain.{Chain}
-use Rattle.std.specs.Prelude.{Result}
 use Rattle.numbers.specs.declared.Refusal.{Refusal}
 use Rattle.numbers.specs.Told.{number}
 use Rattle.tag.specs.declared.Counts.{Counts}

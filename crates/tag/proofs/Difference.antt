@@ -1,15 +1,8 @@
 -- What two tags differ in, gathered, is 0 exactly where the two are the same.
 -- Assumes nothing.
-use mathlib.Core.Path.{◌≡◌, refl, ap, ap₂, sym, ◌∙◌}
-use mathlib.Core.Logic.{⊎_elim}
-use mathlib.Core.List.{List}
-use Prim.Native.Nat.{ℕ, zero, suc, ◌+◌, ◌<◌}
-use native.Mathlib.Nat.{not-suc-le-zero, le_of_suc-le-suc, eq-or-lt_of_le}
-use native.Mathlib.Numerals.{add-one}
-use native.Mathlib.Omega.{arith}
-use lib.Bits.{bit_or, bit_xor, xor_self}
-use lib.ListN.{length, get_or}
-use lib.Seq.{ext_get_or}
+use Rattle.std.proofs.Common.{◌≡◌, refl, ap, ap₂, sym, ◌∙◌, ⊎_elim, List, ℕ, zero, suc, ◌+◌, ◌<◌, not-suc-le-zero, le_of_suc-le-suc}
+use Rattle.std.proofs.Common.{eq-or-lt_of_le, add-one, arith, bit_or, bit_xor, length, get_or, ext_get_or}
+use lib.Bits.{xor_self}
 use Rattle.laws.proofs.Or.{or_none}
 use Rattle.laws.proofs.Xor.{xor_cancel}
 use Rattle.tag.specs.Difference.{differences}

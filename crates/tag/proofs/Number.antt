@@ -1,13 +1,8 @@
 -- The faults of a tag length and of a tag slice, by cases, and what it tells that there is none.
 -- Assumes nothing.
-use mathlib.Core.Path.{◌≡◌, refl, sym}
-use mathlib.Core.List.{[], ◌∷◌}
-use Prim.Native.Nat.{ℕ}
-use lib.Dec.{eqb}
-use borrow.Author.Tests.{eqb-true, eq-eqb, ne_eqb}
+use Rattle.std.proofs.Common.{◌≡◌, refl, sym, [], ◌∷◌, ℕ, eqb, eqb-true, eq-eqb, ne_eqb, Err}
 use Rattle.laws.proofs.Fault.{unless_holds, unless_fails, unless_none, fault_found, fault_pass, fault_last, none_of_two}
 use Rattle.laws.proofs.UpTo.{Within, up_to_is}
-use Rattle.std.specs.Prelude.{Err}
 use Rattle.numbers.specs.declared.Refusal.{Refusal}
 use Rattle.numbers.specs.Told.{number}
 use Rattle.numbers.proofs.Number.{not_done}

@@ -1,11 +1,6 @@
 -- A tag's bits and its bytes: how many they are, and that the bytes stand at the front of a block.
 -- Assumes nothing.
-use mathlib.Core.Path.{◌≡◌, ap, ap₂, ◌∙◌}
-use mathlib.Core.List.{List}
-use Prim.Native.Nat.{ℕ, ◌-◌, ◌≤◌}
-use native.Mathlib.Omega.{arith}
-use lib.ListN.{length, take, replicate, length-take}
-use lib.Seq.{length-take-le, take_at}
+use Rattle.std.proofs.Common.{◌≡◌, ap, ap₂, ◌∙◌, List, ℕ, ◌-◌, ◌≤◌, arith, length, take, replicate, length-take, length-take-le, take_at}
 use Rattle.laws.specs.Up.{up}
 use Rattle.block.specs.Bits.{bits, bytes}
 use Rattle.block.specs.Block.{cut, sixteen}

@@ -1,11 +1,6 @@
 -- What the answer of a call that makes or checks a tag tells, by its number.
 -- Assumes nothing.
-use mathlib.Core.Path.{◌≡◌, refl, ap, sym, ◌∙◌}
-use mathlib.Core.Bool.{Bool, true, false}
-use mathlib.Core.Logic.{◌⊎◌, inl, inr, ⊎_elim}
-use mathlib.Core.List.{List}
-use Prim.Native.Nat.{ℕ}
-use native.Mathlib.Omega.{arith}
+use Rattle.std.proofs.Common.{◌≡◌, refl, ap, sym, ◌∙◌, Bool, true, false, ◌⊎◌, inl, inr, ⊎_elim, List, ℕ, arith}
 use Rattle.laws.specs.Pick.{pick}
 use Rattle.laws.proofs.Cases.{none_told}
 use Rattle.block.specs.Bits.{bits}

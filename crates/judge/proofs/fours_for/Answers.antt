@@ -1,7 +1,6 @@
 -- `judge::fours_for` meets its contract. What is left of the steps, of which no more are whole.
 -- Assumes nothing.
-use mathlib.Core.Path.{ap₂}
-use Prim.Native.Nat.{◌-◌}
+use Rattle.std.proofs.Common.{ap₂, ◌-◌}
 use Rattle.chain.specs.Stream.{settled}
 use Rattle.judge.proofs.fours_for.Goals as goal
 

@@ -1,8 +1,7 @@
 -- `keys::key_call` meets its contract. Refused where there is a fault; otherwise number 0 tells that both keys have sixteen bytes.
 -- Assumes nothing.
-use Rattle.std.proofs.Common.{◌≡◌, sym, ◌∙◌, arith}
+use Rattle.std.proofs.Common.{◌≡◌, sym, ◌∙◌, arith, length}
 use Rattle.std.proofs.lemmas.Result.{err_from_is_err_and}
-use lib.ListN.{length}
 use Rattle.block.proofs.Sixteen.{sixteen_all}
 use Rattle.laws.proofs.UpTo.{Within}
 use Rattle.numbers.specs.Told.{number}

@@ -1,6 +1,6 @@
 -- `keys::meant` meets its contract. By its test.
 -- Assumes nothing.
-use borrow.Author.Tests.{eq-eqb, ne_eqb}
+use Rattle.std.proofs.Common.{eq-eqb, ne_eqb}
 use Rattle.pcmac.specs.Limits.{resolved}
 use Rattle.keys.proofs.meant.Goals as goal
 

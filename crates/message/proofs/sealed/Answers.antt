@@ -1,10 +1,7 @@
 -- `message::sealed` meets its contract. The engine's run over all blocks but the last, and its closing step.
 -- Assumes nothing.
-use mathlib.Core.Path.{sym}
-use lib.ListN.{length}
-use lib.Seq.{length-take-le}
+use Rattle.std.proofs.Common.{sym, length, length-take-le, rules}
 use Rattle.message.proofs.Whole.{last_at, message_chained, message_last, message_sealed}
-use borrow.Author.Rules.{rules}
 use Rattle.message.proofs.sealed.Goals as goal
 
 pub slice_bounds-absorb-end : goal.slice_bounds-absorb-end

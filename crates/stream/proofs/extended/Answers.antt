@@ -1,11 +1,8 @@
 -- `stream::extended` meets its contract. By whether held bytes and part make more than a block.
 -- Assumes nothing.
-use Prim.Native.Nat.{◌+◌, ◌≤◌}
-use native.Mathlib.Omega.{arith}
-use lib.ListN.{length}
+use Rattle.std.proofs.Common.{◌+◌, ◌≤◌, arith, length, rules}
 use Rattle.judge.proofs.Held.{Fine, formed_holds}
 use Rattle.stream.proofs.Adding.{added_room}
-use borrow.Author.Rules.{rules}
 use Rattle.stream.proofs.extended.Goals as goal
 use Rattle.stream.proofs.extended.Goals.{Start}
 

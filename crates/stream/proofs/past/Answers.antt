@@ -1,12 +1,8 @@
 -- `stream::past` meets its contract. The held block filled up, the blocks behind it but the last, and the last, as the law has them.
 -- Assumes nothing.
-use mathlib.Core.Path.{refl}
-use Prim.Native.Nat.{◌-◌, ◌/◌, ◌<◌}
-use native.Mathlib.Omega.{arith}
-use lib.ListN.{length}
+use Rattle.std.proofs.Common.{refl, ◌-◌, ◌/◌, ◌<◌, arith, length, rules}
 use Rattle.judge.proofs.Held.{Fine, formed_holds}
 use Rattle.stream.proofs.Adding.{added_over, chain_few}
-use borrow.Author.Rules.{rules}
 use Rattle.stream.proofs.past.Goals as goal
 use Rattle.stream.proofs.past.Goals.{Start}
 

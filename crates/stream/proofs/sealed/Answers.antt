@@ -1,10 +1,8 @@
 -- `stream::sealed` meets its contract. The engine's closing step, over the stream's chain.
 -- Assumes nothing.
-use mathlib.Core.Path.{◌≡◌}
-use lib.ListN.{length}
+use Rattle.std.proofs.Common.{◌≡◌, length, rules}
 use Rattle.judge.proofs.Held.{Fine}
 use Rattle.stream.proofs.Closing.{closing_sealed}
-use borrow.Author.Rules.{rules}
 use Rattle.stream.proofs.sealed.Goals as goal
 use Rattle.stream.proofs.sealed.Goals.{Start}
 

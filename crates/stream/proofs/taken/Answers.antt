@@ -1,7 +1,7 @@
 -- `stream::taken` meets its contract. Two runs of blocks, the first of one block, whose counts have room for both.
 -- Assumes nothing.
 use Rattle.stream.proofs.Adding.{then_taken}
-use borrow.Author.Rules.{rules}
+use Rattle.std.proofs.Common.{rules}
 use Rattle.stream.proofs.taken.Goals as goal
 
 pub returns : goal.returns

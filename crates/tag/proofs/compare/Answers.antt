@@ -1,7 +1,6 @@
 -- `tag::compare` meets its contract. By the first fault of the tag length and the slice, and by what was gathered of the two blocks.
 -- Assumes nothing.
-use Rattle.std.proofs.Common.{rules, sym, refl, true, false, eq-eqb}
-use borrow.Author.Tests.{ne_eqb}
+use Rattle.std.proofs.Common.{rules, sym, refl, true, false, eq-eqb, ne_eqb}
 use Rattle.numbers.specs.Told.{number, number_of}
 use Rattle.tag.proofs.Answered.{checking_err}
 use Rattle.tag.proofs.Compared.{compared}

@@ -1,8 +1,7 @@
 -- `tag::write` meets its contract. By the first fault of the tag length and the slice.
 -- Assumes nothing.
-use Rattle.std.proofs.Common.{rules, sym, length, ◌≤◌}
+use Rattle.std.proofs.Common.{rules, sym, length, ◌≤◌, length-take-le}
 use Rattle.std.proofs.lemmas.Result.{err_from_is_err_and}
-use lib.Seq.{length-take-le}
 use Rattle.numbers.specs.Told.{number}
 use Rattle.tag.proofs.Answered.{making_err, making_stays, slice_made}
 use Rattle.tag.proofs.Number.{suits}

@@ -1,8 +1,7 @@
 -- `keys::subkeys::made` meets its contract. The two runs are the definition's two loops.
 -- Assumes nothing.
-use native.Mathlib.Omega.{arith}
+use Rattle.std.proofs.Common.{arith, rules}
 use Rattle.keys.proofs.Ran.{ran_count, taken_runs}
-use Rattle.std.proofs.Common.{rules}
 use Rattle.keys.proofs.subkeys.made.Goals as goal
 
 pub run-requires : goal.run-requires

@@ -1,8 +1,7 @@
 -- `keys::subkeys::run` meets its contract. After i turns i steps are taken; n - i turns are left.
 -- Assumes nothing.
-use native.Mathlib.Omega.{arith}
+use Rattle.std.proofs.Common.{arith, rules}
 use Rattle.keys.proofs.Ran.{running_none, running_room, running_more, running_all}
-use Rattle.std.proofs.Common.{rules}
 use Rattle.keys.proofs.subkeys.run.Goals as goal
 
 pub loop-i-init : goal.loop-i-init

@@ -1,4 +1,4 @@
-use Prim.Native.Nat.{◌-◌}
+use Rattle.std.proofs.Common.{◌-◌}
 use Rattle.aes.specs.Cipher.{cipher}
 use Rattle.keys.proofs.Ran.{Running}
 use Rattle.keys.proofs.subkeys.run.Given as goal
