@@ -1,12 +1,11 @@
 -- The verdict on a frame line, by what decoding it answers.
 -- Assumes nothing.
-use mathlib.Core.Path.{◌≡◌, ap, sym, ◌∙◌}
-use mathlib.Core.List.{List}
-use Prim.Native.Nat.{ℕ}
-use lib.ListN.{length, take}
-use borrow.Author.Tests.{eq-eqb, ne_eqb}
+use Rattle.std.proofs.Common.{◌≡◌, ap, sym, ◌∙◌, List, ℕ, length, take, ne_eqb, refl, Ok, Err}
 use Rattle.keys.specs.declared.KeySet.{KeySet}
-use Rattle.hex_line.specs.declared.LineAnswer.{LineAnswer}
+use Rattle.numbers.specs.declared.Refusal.{Refusal}
+use Rattle.numbers.specs.Told.{number_of}
+use Rattle.numbers.proofs.Number.{not_done}
+use Rattle.hex_line.specs.Told.{told_line}
 use Rattle.hex_line.specs.Answer.{decode_number}
 use Rattle.hex_line.specs.Promise.{DecodePromise}
 use Rattle.hex_line.proofs.Told.{is_written, least_number}
@@ -20,18 +19,14 @@ unfolding line_answer
 answer_refused k line e h = rw (ne_eqb (decode_number 255 line) 0 (λ z. h (e ∙ z))) (ap refused_frame e)
 
 -- it is decoded into a space
-module _
-    (k : KeySet)
-    (line space : List ℕ)
-    {d : LineAnswer}
-    {after : List ℕ}
-    (size : length space ≡ 255)
-    (p : DecodePromise line space d after)
-  where
-    pub line_refused : {r : FrameAnswer} → (d.number ≡ 0 → ⊥) → r ≡ refused_frame d.number → r ≡ line_answer k line
-    line_refused h e = e ∙ answer_refused k line (sym (least_number line space size p)) h
+module _ (k : KeySet) (line space : List ℕ) {after : List ℕ} (size : length space ≡ 255) where
+  pub line_refused : {r : FrameAnswer} (why : Refusal) → DecodePromise line space (told_line (Err why)) after
+      → r ≡ refused_frame (number_of why) → r ≡ line_answer k line
+  unfolding told_line
+  line_refused why p e = e ∙ answer_refused k line (sym (least_number line space size p)) (not_done why)
 
-    pub line_judged : {r : FrameAnswer} → d.number ≡ 0 → r ≡ frame_answer k (take d.written after) → r ≡ line_answer k line
-    unfolding line_answer
-    line_judged z e =
-        rw (least_number line space size p, eq-eqb d.number 0 z) (e ∙ ap (frame_answer k) (is_written line space p z).front)
+  pub line_judged : {r : FrameAnswer} (n : ℕ) → DecodePromise line space (told_line (Ok n)) after
+      → r ≡ frame_answer k (take n after) → r ≡ line_answer k line
+  unfolding told_line line_answer
+  line_judged n p e =
+      rw (least_number line space size p) (e ∙ ap (frame_answer k) (is_written line space p refl).front)

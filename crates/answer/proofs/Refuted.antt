@@ -1,12 +1,7 @@
 -- Wrong outcomes that the promises do not permit.
 -- Assumes nothing.
-use mathlib.Core.Path.{◌≡◌, ap, sym, ◌∙◌}
-use mathlib.Core.Bool.{false}
-use mathlib.Core.List.{List, ◌++◌}
-use Prim.Native.Nat.{ℕ, ◌≤◌, ◌<◌}
-use native.Mathlib.Omega.{arith}
-use lib.ListN.{length, get_or, drop}
-use lib.Seq.{get_or-take, take-append_seam}
+use Rattle.std.proofs.Common.{◌≡◌, ap, sym, ◌∙◌, false, List, ◌++◌, ℕ, ◌≤◌, ◌<◌, arith, length, get_or, drop, get_or-take}
+use Rattle.std.proofs.Math.Seq.{take-append_seam}
 use Rattle.laws.proofs.Fault.{unless_fails}
 use Rattle.keys.specs.declared.KeySet.{KeySet}
 use Rattle.laws.specs.BigEndian.{big_endian}

@@ -1,19 +1,15 @@
 -- The text of an answer, from the bytes that were encoded and the line feed behind them; and how long it is.
 -- Assumes nothing.
-use mathlib.Core.Path.{◌≡◌, ap, sym, ◌∙◌}
-use mathlib.Core.List.{List, [], ◌∷◌, ◌++◌}
-use Prim.Native.Nat.{ℕ, ◌/◌, ◌%◌, ◌≤◌, ◌<◌}
-use native.Mathlib.Omega.{arith}
-use lib.ListN.{length, get_or, drop, set, length-append}
-use lib.Seq.{get_or_at}
+use Rattle.std.proofs.Common.{◌≡◌, ap, sym, ◌∙◌, List, [], ◌∷◌, ◌++◌, ℕ, ◌/◌, ◌%◌, ◌≤◌, ◌<◌, arith, length, get_or, drop, set}
+use Rattle.std.proofs.Common.{length-append, Ok, Err, ◌+◌, length-drop}
+use Rattle.std.proofs.Math.Seq.{get_or_at}
 use Rattle.laws.proofs.BigEndian.{big_length, big_one, big_byte, big_four}
-use Rattle.hex_line.specs.declared.LineAnswer.{LineAnswer}
+use Rattle.numbers.specs.declared.Refusal.{Refusal}
+use Rattle.hex_line.specs.Told.{told_line}
 use Rattle.hex_line.specs.Line.{encoded}
-use Rattle.hex_line.specs.Answer.{encode_number}
 use Rattle.hex_line.specs.Promise.{EncodePromise}
 use Rattle.hex_line.proofs.BothWays.{encoded_length}
-use Rattle.hex_line.proofs.Outcome.{number_room}
-use Rattle.hex_line.proofs.Told.{written_by}
+use Rattle.hex_line.proofs.Told.{encoded_before, encoded_all, encoded_refused}
 use Rattle.lines.specs.Lines.{line_feed}
 use Rattle.lines.proofs.Telling.{text_tells, fed_behind}
 use Rattle.frame.specs.declared.FrameAnswer.{FrameAnswer}
@@ -51,15 +47,30 @@ unfolding text_of
 text_feed a = get_or_at (encoded (answer_bytes a)) line_feed [] 0 20 (omega (arith, encoded_length (answer_bytes a), bytes_length a))
 
 -- the bytes are encoded, and a line feed is stored behind their characters
-pub tells_encoded : (a : FrameAnswer) (bytes space : List ℕ) {r : LineAnswer} {written : List ℕ} → bytes ≡ answer_bytes a
-    → text_length ≤ length space → EncodePromise bytes space r written → TellPromise a space text_length (set written 20 line_feed)
-unfolding text_of
-tells_encoded a bytes space {r} {written} e room p =
-    let n : length bytes ≡ 10 = ap length e ∙ bytes_length a in
-    let m : 20 ≡ length (encoded bytes) = omega (arith, encoded_length bytes) in
-    let is : written ≡ encoded bytes ++ drop 20 space =
-    (written_by (encode_number (length space) bytes) (encoded bytes) space p (sym (number_room (length space) bytes (omega arith)))).1
-    ∙ ap (λ (k : ℕ). encoded bytes ++ drop k space) (sym m) in
-    text_tells text_length (text_of a) space room (sym (text_length_is a))
-    (fed_behind (encoded bytes) space m (omega arith) is
-    ∙ ap (λ (x : List ℕ). (encoded x ++ (line_feed ∷ [])) ++ drop 21 space) e)
+module _ (a : FrameAnswer) (bytes space : List ℕ) (e : bytes ≡ answer_bytes a) (room : text_length ≤ length space) where
+  ten : length bytes ≡ 10
+  ten = ap length e ∙ bytes_length a
+
+  pub unencoded : (why : Refusal) (written : List ℕ) → EncodePromise bytes space (told_line (Err why)) written → ⊥
+  unencoded why written p = encoded_refused bytes space (omega (arith, ten)) why p
+
+  module _ (n : ℕ) (written : List ℕ) (p : EncodePromise bytes space (told_line (Ok n)) written) where
+    pub twenty : n ≡ 20
+    twenty = encoded_all bytes space (omega (arith, ten)) n p ∙ omega (arith, ten)
+
+    laid : written ≡ encoded bytes ++ drop 20 space
+    laid =
+        let m : length (encoded bytes) ≡ 20 = omega (arith, encoded_length bytes, ten) in
+        encoded_before bytes space (omega (arith, ten)) p ∙ ap (λ (k : ℕ). encoded bytes ++ drop k space) m
+
+    pub feed_within : n < length written
+    feed_within =
+        omega (arith, ap length laid, length-append (encoded bytes) (drop 20 space), length-drop 20 space, encoded_length bytes, ten, twenty)
+
+    pub tells_encoded : TellPromise a space (n + 1) (set written n line_feed)
+    unfolding text_of
+    tells_encoded =
+        let m : n ≡ length (encoded bytes) = omega (arith, encoded_length bytes, ten, twenty) in
+        text_tells text_length (text_of a) space room (omega (arith, twenty, text_length_is a))
+        (fed_behind (encoded bytes) space m (omega (arith, twenty)) (laid ∙ ap (λ (k : ℕ). encoded bytes ++ drop k space) (sym twenty))
+        ∙ ap (λ (x : List ℕ). (encoded x ++ (line_feed ∷ [])) ++ drop (n + 1) space) e)

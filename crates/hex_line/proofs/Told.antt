@@ -1,17 +1,21 @@
 -- What decoding and encoding tell their caller: which numbers are given, what 0 says, and what then stands in the space.
 -- Assumes nothing.
-use Rattle.std.proofs.Common.{◌≡◌, refl, ap, sym, ◌∙◌, ⊎_elim, Bool, true, false, List, ◌++◌, ℕ, ◌/◌, ◌≤◌, arith, eqb, leb, length, take}
+use Rattle.std.proofs.Common.{◌≡◌, refl, ap, sym, ◌∙◌, ⊎_elim, Bool, true, false, List, ◌++◌, ℕ, ◌*◌, ◌/◌, ◌≤◌, arith, eqb, leb, length, take}
+use Rattle.std.proofs.Common.{Ok, Err}
 use Rattle.std.proofs.Common.{drop, length-append, length-drop, leb-true, eq-eqb, ne_eqb, eqb-true}
 use Rattle.std.proofs.Math.Seq.{take-append_seam}
 use Rattle.laws.proofs.Cases.{none_or_some}
 use Rattle.laws.specs.Fault.{unless}
 use Rattle.laws.specs.Pick.{pick}
 use Rattle.laws.proofs.Fault.{unless_none, none_of_three}
-use Rattle.hex_line.specs.Told.{LineAnswer}
-use Rattle.hex_line.specs.Line.{is_hex, decoded}
-use Rattle.hex_line.specs.Answer.{decode_number, refused_line, written_answer, written_space}
-use Rattle.hex_line.specs.Promise.{Writes, DecodePromise}
-use Rattle.hex_line.proofs.BothWays.{decoded_length}
+use Rattle.numbers.specs.declared.Refusal.{Refusal}
+use Rattle.numbers.proofs.Number.{not_done}
+use Rattle.hex_line.specs.Told.{LineAnswer, told_line}
+use Rattle.hex_line.specs.Line.{is_hex, decoded, encoded}
+use Rattle.hex_line.specs.Answer.{decode_number, encode_number, refused_line, written_answer, written_space}
+use Rattle.hex_line.specs.Promise.{Writes, DecodePromise, EncodePromise}
+use Rattle.hex_line.proofs.BothWays.{decoded_length, encoded_length}
+use Rattle.hex_line.proofs.Outcome.{number_room}
 
 -- a line that may be decoded, into a space of n bytes
 pub record Decodes (n : ℕ) (line : List ℕ) : Type 0 where
@@ -114,3 +118,19 @@ module _
 
     pub least_within : r.written ≤ length after
     least_within = omega (arith, written_most line space p, after_length line space p)
+
+-- what is encoded in a space that has room for it stands before what it held
+module _ (x space : List ℕ) (h : 2 * length x ≤ length space) {after : List ℕ} where
+  pub encoded_before : {r : LineAnswer} → EncodePromise x space r after → after ≡ encoded x ++ drop (length (encoded x)) space
+  encoded_before p = (written_by (encode_number (length space) x) (encoded x) space p (sym (number_room (length space) x h))).1
+
+  -- it is not refused, and is counted
+  pub encoded_all : (n : ℕ) → EncodePromise x space (told_line (Ok n)) after → n ≡ 2 * length x
+  unfolding told_line
+  encoded_all n p =
+      (written_by (encode_number (length space) x) (encoded x) space p (sym (number_room (length space) x h))).0 ∙ encoded_length x
+
+  pub encoded_refused : (why : Refusal) → EncodePromise x space (told_line (Err why)) after → ⊥
+  unfolding told_line
+  encoded_refused why p =
+      not_done why (number_by (encode_number (length space) x) (encoded x) space p ∙ sym (number_room (length space) x h))

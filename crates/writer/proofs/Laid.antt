@@ -16,33 +16,16 @@ use Rattle.tag.proofs.Answered.{making_is, slice_is}
 use Rattle.message.specs.Answer.{message_number, tagged}
 use Rattle.message.specs.Promise.{TagPromise}
 use Rattle.message.proofs.Number.{tags_none}
-use Rattle.hex_line.specs.Told.{LineAnswer, told_line}
+use Rattle.hex_line.specs.Told.{told_line}
 use Rattle.hex_line.specs.Line.{encoded}
-use Rattle.hex_line.specs.Answer.{encode_number, written_space}
+use Rattle.hex_line.specs.Answer.{written_space}
 use Rattle.hex_line.specs.Promise.{EncodePromise}
 use Rattle.hex_line.proofs.BothWays.{encoded_length, encoded_append}
-use Rattle.hex_line.proofs.Outcome.{number_room}
-use Rattle.hex_line.proofs.Told.{number_by, written_by}
+use Rattle.hex_line.proofs.Told.{encoded_before, encoded_all, encoded_refused}
 use Rattle.writer.specs.Told.{Written, told_write}
 use Rattle.writer.specs.Line.{write_number, frame_of, line_of, refused_write, done_write, write_answer}
 use Rattle.writer.specs.Promise.{WritePromise}
 use Rattle.writer.proofs.Number.{Fits, writes_told}
-
--- what is encoded in a space that has room for it stands before what it held
-module _ (x space : List ℕ) (h : 2 * length x ≤ length space) {after : List ℕ} where
-  pub encoded_before : {r : LineAnswer} → EncodePromise x space r after → after ≡ encoded x ++ drop (length (encoded x)) space
-  encoded_before p = (written_by (encode_number (length space) x) (encoded x) space p (sym (number_room (length space) x h))).1
-
-  -- it is not refused, and is counted
-  pub encoded_all : (n : ℕ) → EncodePromise x space (told_line (Ok n)) after → n ≡ 2 * length x
-  unfolding told_line
-  encoded_all n p =
-      (written_by (encode_number (length space) x) (encoded x) space p (sym (number_room (length space) x h))).0 ∙ encoded_length x
-
-  pub encoded_refused : (why : Refusal) → EncodePromise x space (told_line (Err why)) after → ⊥
-  unfolding told_line
-  encoded_refused why p =
-      not_done why (number_by (encode_number (length space) x) (encoded x) space p ∙ sym (number_room (length space) x h))
 
 module _ (k : KeySet) (body space : List ℕ) where
   -- refused: the answer is the refusal, and the space as it was

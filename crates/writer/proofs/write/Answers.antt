@@ -4,9 +4,10 @@ use Rattle.std.proofs.Common.{◌≡◌, sym, ◌∙◌, List, ℕ, ◌+◌, len
 use Rattle.std.proofs.lemmas.Result.{err_from_is_err_and}
 use Rattle.numbers.specs.Told.{number}
 use Rattle.tag.specs.Tag.{tag_bytes}
+use Rattle.hex_line.proofs.Told.{encoded_refused}
 use Rattle.writer.specs.Line.{write_number}
 use Rattle.writer.proofs.Number.{Fits, writes_told}
-use Rattle.writer.proofs.Laid.{write_refused, tag_refused, body_room, encoded_refused, end_within, more_refused, line_within, written_whole}
+use Rattle.writer.proofs.Laid.{write_refused, tag_refused, body_room, end_within, more_refused, line_within, written_whole}
 use Rattle.writer.proofs.write.Goals as goal
 use Rattle.writer.proofs.write.Goals.{In_ok-fault, In_ok-end}
 
