@@ -73,8 +73,10 @@ module _ (d : ℕ) (s : Stream) {v₂ v₃ v₄ v₅ : Bool} (e₂ : v₂ ≡ bo
     (e₅ : v₅ ≡ both v₄ (eqb s.four (four_for d s.total))) where
   formed_chain : both v₅ (pick (leb s.total 16) (all_zero s.value) true) ≡ formed d s
   unfolding formed
-  formed_chain = rw (e₅, e₄, e₃, e₂) (chained (leb s.total message_limit) (eqb s.count (held_for s.total)) (all_zero (drop s.count s.held)) (eqb s.whole (whole_for d s.total))
-      (eqb s.four (four_for d s.total)) (pick (leb s.total 16) (all_zero s.value) true))
+  formed_chain =
+      rw (e₅, e₄, e₃, e₂)
+      (chained (leb s.total message_limit) (eqb s.count (held_for s.total)) (all_zero (drop s.count s.held))
+      (eqb s.whole (whole_for d s.total)) (eqb s.four (four_for d s.total)) (pick (leb s.total 16) (all_zero s.value) true))
 
   pub formed_not : v₅ ≡ false → v₅ ≡ formed d s
   formed_not e = let f = rw e at formed_chain in e ∙ f
