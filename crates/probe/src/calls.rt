@@ -1,130 +1,165 @@
-// Makes the calls, and shows what they answer. Each function bears the name of the call that it makes,
-// and hands back how many characters its answer has. A call that is lent a space finds it filled, and
-// the space is shown whole behind the answer, whatever was done with it.
-use crate::question::Question;
-use crate::text::at_most;
-use crate::{fields, question, show};
+// Makes the calls. Each function bears the name of the call that it makes, reads the fields that the call
+// has, and writes what it answers: nothing, where the fields make no question. A call that is lent a space
+// finds it filled, and the space is shown whole behind the answer, whatever was done with it.
+use crate::fields::{Fields, Room};
+use crate::question::Call;
+use crate::show::{self, NO_COUNTS, Part, State, Steps, told_or};
+use crate::text::Hex;
+use numbers::told;
+use std::io;
+use writer::FrameLine;
 
-fn key_call<'a>(asked: &'a [u8], k: &'a [u8], l: &'a [u8], out: &'a mut [u8]) -> usize {
-    let order = fields::number(asked, 1);
-    let bits = fields::number(asked, 9);
-    let a = keys::key_call(order, bits, k, l);
-    show::key_answer(out, a)
+// Whether an answer could be written, where there was a question.
+type Answer = Option<io::Result<()>>;
+
+fn key_call(rt: &impl Print, fields: &mut Fields, room: &mut Room) -> Answer {
+    let order = fields.number()?;
+    let bits = fields.number()?;
+    let k = fields.bytes(&mut room.first)?;
+    let l = fields.bytes(&mut room.second)?;
+    fields.end()?;
+    Some(show::key_outcome(rt, keys::key_call(order, bits, k, l)))
 }
 
-fn read<'a>(line: &'a [u8], out: &'a mut [u8]) -> usize {
-    let a = keyline::read(line);
-    show::key_answer(out, a)
+fn read(rt: &impl Print, fields: &mut Fields, room: &mut Room) -> Answer {
+    let line = fields.bytes(&mut room.first)?;
+    fields.end()?;
+    Some(show::key_outcome(rt, keyline::read(line)))
 }
 
-fn start(out: &mut [u8]) -> usize {
-    show::stream(out, 0, stream::start())
+fn start(rt: &impl Print, fields: &mut Fields) -> Answer {
+    fields.end()?;
+    Some(println!(rt; "{}", State(&stream::start())))
 }
 
-fn add<'a>(asked: &'a [u8], part: &'a [u8], out: &'a mut [u8]) -> usize {
-    let a = stream::add(fields::key_set(asked), fields::stream(asked), part);
-    show::added(out, a)
+fn add(rt: &impl Print, fields: &mut Fields, room: &mut Room) -> Answer {
+    let set = fields.key_set()?;
+    let s = fields.stream()?;
+    let part = fields.bytes(&mut room.first)?;
+    fields.end()?;
+    let (number, state) = told_or(stream::add(set, s, part), s);
+    Some(println!(rt; "{number:02X}{}", State(&state)))
 }
 
-fn close<'a>(asked: &'a [u8], q: Question, out: &'a mut [u8]) -> usize {
-    let mut space = [q.fill; 1024];
-    let n = at_most(q.size, 1024);
-    let a = stream::close(
-        fields::key_set(asked),
-        fields::stream(asked),
-        &mut space[..n],
-    );
-    let at = show::tag_answer(out, a);
-    show::space(out, at, space, n)
+fn close(rt: &impl Print, fields: &mut Fields, room: &mut Room) -> Answer {
+    let set = fields.key_set()?;
+    let s = fields.stream()?;
+    let space = fields.space(&mut room.space)?;
+    fields.end()?;
+    let (number, counts) = told_or(stream::close(set, s, space), NO_COUNTS);
+    Some(println!(rt; "{number:02X}{}{}", Steps(counts), Hex(space)))
 }
 
-fn check<'a>(asked: &'a [u8], received: &'a [u8], out: &'a mut [u8]) -> usize {
-    let a = stream::check(fields::key_set(asked), fields::stream(asked), received);
-    show::tag_answer(out, a)
+fn check(rt: &impl Print, fields: &mut Fields, room: &mut Room) -> Answer {
+    let set = fields.key_set()?;
+    let s = fields.stream()?;
+    let received = fields.bytes(&mut room.first)?;
+    fields.end()?;
+    let a = stream::check(set, s, received);
+    Some(println!(rt; "{:02X}{}", told(a.outcome), Steps(a.counts)))
 }
 
-fn tag<'a>(asked: &'a [u8], q: Question, message: &'a [u8], out: &'a mut [u8]) -> usize {
-    let mut space = [q.fill; 1024];
-    let n = at_most(q.size, 1024);
-    let a = message::tag(fields::key_set(asked), message, &mut space[..n]);
-    let at = show::tag_answer(out, a);
-    show::space(out, at, space, n)
+fn tag(rt: &impl Print, fields: &mut Fields, room: &mut Room) -> Answer {
+    let set = fields.key_set()?;
+    let message = fields.bytes(&mut room.first)?;
+    let space = fields.space(&mut room.space)?;
+    fields.end()?;
+    let (number, counts) = told_or(message::tag(set, message, space), NO_COUNTS);
+    Some(println!(rt; "{number:02X}{}{}", Steps(counts), Hex(space)))
 }
 
-fn verify<'a>(asked: &'a [u8], message: &'a [u8], received: &'a [u8], out: &'a mut [u8]) -> usize {
-    let a = message::verify(fields::key_set(asked), message, received);
-    show::tag_answer(out, a)
+fn verify(rt: &impl Print, fields: &mut Fields, room: &mut Room) -> Answer {
+    let set = fields.key_set()?;
+    let message = fields.bytes(&mut room.first)?;
+    let received = fields.bytes(&mut room.second)?;
+    fields.end()?;
+    let a = message::verify(set, message, received);
+    Some(println!(rt; "{:02X}{}", told(a.outcome), Steps(a.counts)))
 }
 
-fn decode<'a>(q: Question, line: &'a [u8], out: &'a mut [u8]) -> usize {
-    let mut space = [q.fill; 1024];
-    let n = at_most(q.size, 1024);
-    let a = hex_line::decode(line, &mut space[..n]);
-    let at = show::line_answer(out, a);
-    show::space(out, at, space, n)
+fn decode(rt: &impl Print, fields: &mut Fields, room: &mut Room) -> Answer {
+    let line = fields.bytes(&mut room.first)?;
+    let space = fields.space(&mut room.space)?;
+    fields.end()?;
+    let (number, written) = told_or(hex_line::decode(line, space), 0);
+    Some(println!(rt; "{number:02X}{written:016X}{}", Hex(space)))
 }
 
-fn judge<'a>(asked: &'a [u8], frame: &'a [u8], out: &'a mut [u8]) -> usize {
-    let a = frame::judge(fields::key_set(asked), frame);
-    show::frame_answer(out, a)
+fn judge(rt: &impl Print, fields: &mut Fields, room: &mut Room) -> Answer {
+    let set = fields.key_set()?;
+    let frame = fields.bytes(&mut room.first)?;
+    fields.end()?;
+    let a = frame::judge(set, frame);
+    let (number, length) = told_or(a.body, 0);
+    Some(println!(rt; "{number:02X}{}{length:016X}", Steps(a.counts)))
 }
 
-fn open<'a>(asked: &'a [u8], frame: &'a [u8], out: &'a mut [u8]) -> usize {
-    let part = frame::open(fields::key_set(asked), frame);
-    show::part(out, part)
+fn open(rt: &impl Print, fields: &mut Fields, room: &mut Room) -> Answer {
+    let set = fields.key_set()?;
+    let frame = fields.bytes(&mut room.first)?;
+    fields.end()?;
+    Some(println!(rt; "{}", Part(frame::open(set, frame))))
 }
 
-fn open_or<'a>(asked: &'a [u8], frame: &'a [u8], table: &'a [u8], out: &'a mut [u8]) -> usize {
-    let part = frame::open_or(fields::key_set(asked), frame, table);
-    show::part(out, part)
+fn open_or(rt: &impl Print, fields: &mut Fields, room: &mut Room) -> Answer {
+    let set = fields.key_set()?;
+    let frame = fields.bytes(&mut room.first)?;
+    let table = fields.bytes(&mut room.second)?;
+    fields.end()?;
+    Some(println!(rt; "{}", Part(frame::open_or(set, frame, table))))
 }
 
-fn open_or_keep<'a>(asked: &'a [u8], frame: &'a [u8], table: &'a [u8], out: &'a mut [u8]) -> usize {
-    let part = bridge::open_or_keep(fields::key_set(asked), frame, table);
-    show::part(out, part)
+fn open_or_keep(rt: &impl Print, fields: &mut Fields, room: &mut Room) -> Answer {
+    let set = fields.key_set()?;
+    let frame = fields.bytes(&mut room.first)?;
+    let table = fields.bytes(&mut room.second)?;
+    fields.end()?;
+    Some(println!(rt; "{}", Part(bridge::open_or_keep(set, frame, table))))
 }
 
-fn encode<'a>(q: Question, bytes: &'a [u8], out: &'a mut [u8]) -> usize {
-    let mut space = [q.fill; 1024];
-    let n = at_most(q.size, 1024);
-    let a = hex_line::encode(bytes, &mut space[..n]);
-    let at = show::line_answer(out, a);
-    show::space(out, at, space, n)
+fn encode(rt: &impl Print, fields: &mut Fields, room: &mut Room) -> Answer {
+    let bytes = fields.bytes(&mut room.first)?;
+    let space = fields.space(&mut room.space)?;
+    fields.end()?;
+    let (number, written) = told_or(hex_line::encode(bytes, space), 0);
+    Some(println!(rt; "{number:02X}{written:016X}{}", Hex(space)))
 }
 
-fn write<'a>(asked: &'a [u8], q: Question, body: &'a [u8], out: &'a mut [u8]) -> usize {
-    let mut space = [q.fill; 1024];
-    let n = at_most(q.size, 1024);
-    let a = writer::write(fields::key_set(asked), body, &mut space[..n]);
-    let at = show::written(out, a);
-    show::space(out, at, space, n)
+fn write(rt: &impl Print, fields: &mut Fields, room: &mut Room) -> Answer {
+    let set = fields.key_set()?;
+    let body = fields.bytes(&mut room.first)?;
+    let space = fields.space(&mut room.space)?;
+    fields.end()?;
+    let nothing = FrameLine {
+        counts: NO_COUNTS,
+        length: 0,
+    };
+    let (number, a) = told_or(writer::write(set, body, space), nothing);
+    Some(println!(rt;
+        "{number:02X}{}{:016X}{}",
+        Steps(a.counts),
+        a.length,
+        Hex(space)
+    ))
 }
 
-// Makes the call of a question, with the bytes of its fields. A line that is no question has no answer.
-pub(crate) fn made<'a>(
-    asked: &'a [u8],
-    q: Question,
-    first: &'a [u8],
-    second: &'a [u8],
-    out: &'a mut [u8],
-) -> usize {
-    let call = q.call;
-    match call {
-        question::KEY_CALL => key_call(asked, first, second, out),
-        question::READ => read(first, out),
-        question::START => start(out),
-        question::ADD => add(asked, first, out),
-        question::CLOSE => close(asked, q, out),
-        question::CHECK => check(asked, first, out),
-        question::TAG => tag(asked, q, first, out),
-        question::VERIFY => verify(asked, first, second, out),
-        question::DECODE => decode(q, first, out),
-        question::JUDGE => judge(asked, first, out),
-        question::OPEN => open(asked, first, out),
-        question::OPEN_OR => open_or(asked, first, second, out),
-        question::OPEN_OR_KEEP => open_or_keep(asked, first, second, out),
-        question::ENCODE => encode(q, first, out),
-        question::WRITE => write(asked, q, first, out),
-        _ => 0,
+// Makes the call that a question asks for, and writes what it answers.
+pub(crate) fn made(rt: &impl Print, fields: &mut Fields, room: &mut Room) -> Answer {
+    match Call::try_from(fields.byte()?).ok()? {
+        Call::KeyCall => key_call(rt, fields, room),
+        Call::Read => read(rt, fields, room),
+        Call::Start => start(rt, fields),
+        Call::Add => add(rt, fields, room),
+        Call::Close => close(rt, fields, room),
+        Call::Check => check(rt, fields, room),
+        Call::Tag => tag(rt, fields, room),
+        Call::Verify => verify(rt, fields, room),
+        Call::Decode => decode(rt, fields, room),
+        Call::Judge => judge(rt, fields, room),
+        Call::Open => open(rt, fields, room),
+        Call::OpenOr => open_or(rt, fields, room),
+        Call::OpenOrKeep => open_or_keep(rt, fields, room),
+        Call::Encode => encode(rt, fields, room),
+        Call::Write => write(rt, fields, room),
     }
 }

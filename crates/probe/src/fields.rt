@@ -1,210 +1,142 @@
-// The fields of a question, one after the other. A place past the end says that bytes are missing:
-// what is read there is zeros, and the place behind it lies past the end too. So a question is judged
-// once, by its last field, which has to end where the question does.
-ghost use Rattle.std.specs.Prelude.{◌<◌};
+// The fields of a question, which stand one after the other. A field that is not there, or is cut short,
+// or longer than it may be, is none, and then there is no question.
+ghost use Rattle.std.specs.Prelude.{◌≡◌, length, IfSome};
 
 use keys::KeySet;
 use stream::Stream;
 
-// The place of what is missing.
-const NOWHERE: usize = usize::MAX;
-
-// The most bytes of a space.
-const WIDEST: usize = 1024;
-
-// A bytes field: how many bytes it has, and the place behind it.
-#[derive(Clone, Copy)]
-pub struct Field {
-    pub length: usize,
-    pub next: usize,
+// The bytes of a question that are not read yet.
+#[derive(Drop)]
+pub(crate) struct Fields<'a> {
+    pub rest: &'a [u8],
 }
 
-// A lent space: how many bytes it has, the byte that it is filled with, and the place behind it.
-#[derive(Clone, Copy)]
-pub struct Space {
-    pub size: usize,
-    pub fill: u8,
-    pub next: usize,
+// What fields are laid into: the first bytes field of a call, its second, and the space that is lent to it,
+// each as long as it may be.
+#[derive(Drop)]
+pub(crate) struct Room {
+    pub first: [u8; 1048577],
+    pub second: [u8; 4096],
+    pub space: [u8; 1024],
 }
 
-// The place n bytes on, if they are there.
-pub(crate) fn past(asked: &[u8], at: usize, n: usize) -> usize {
-    if at > asked.len() {
-        return NOWHERE;
-    }
-    if n > asked.len() - at {
-        return NOWHERE;
-    }
-    at + n
-}
-
-// Byte i from a place on.
-pub(crate) fn byte(asked: &[u8], at: usize, i: usize) -> u8 {
-    let p = past(asked, at, i);
-    if p < asked.len() { asked[p] } else { 0 }
-}
-
-// The number in two bytes, big endian.
-fn pair(asked: &[u8], at: usize) -> usize
-    ensures { result < 65536 }
-{
-    byte(asked, at, 0) as usize * 256 + byte(asked, at, 1) as usize
-}
-
-// The number in four.
-fn quad(asked: &[u8], at: usize) -> usize
-    ensures { result < 4294967296 }
-{
-    pair(asked, at) * 65536 + pair(asked, past(asked, at, 2))
-}
-
-// The number in eight.
-pub(crate) fn number(asked: &[u8], at: usize) -> usize {
-    quad(asked, at) * 4294967296 + quad(asked, past(asked, at, 4))
-}
-
-// As many bytes from a place on as a space has.
-fn copy<'a>(asked: &'a [u8], at: usize, into: &'a mut [u8]) {
-    let n = into.len();
-    let mut i: usize = 0;
-    while i < n {
-        into[i] = byte(asked, at, i);
-        i += 1;
+impl Room {
+    pub(crate) fn new() -> Room {
+        Room {
+            first: [0u8; 1048577],
+            second: [0u8; 4096],
+            space: [0u8; 1024],
+        }
     }
 }
 
-// The sixteen bytes at a place.
-fn block(asked: &[u8], at: usize) -> [u8; 16] {
-    let mut r = [0u8; 16];
-    copy(asked, at, &mut r);
-    r
-}
+impl<'a> Fields<'a> {
+    // The next bytes, as many as asked.
+    fn part(&mut self, n: usize) -> Option<&'a [u8]>
+        ensures { IfSome result (λ p. length p.now ≡ n) }
+    {
+        let (part, rest) = self.rest.split_at_checked(n)?;
+        self.rest = rest;
+        Some(part)
+    }
 
-// The schedule at a place.
-fn round(asked: &[u8], at: usize) -> [u8; 176] {
-    let mut r = [0u8; 176];
-    copy(asked, at, &mut r);
-    r
-}
+    // The next bytes, as many as the array has.
+    fn array<const N: usize>(&mut self) -> Option<[u8; N]> {
+        let (part, rest) = self.rest.split_first_chunk::<N>()?;
+        self.rest = rest;
+        Some(*part)
+    }
 
-// The subkeys at a place.
-fn subkeys(asked: &[u8], at: usize) -> [u8; 304] {
-    let mut r = [0u8; 304];
-    copy(asked, at, &mut r);
-    r
-}
+    // Nothing stands behind the last field.
+    pub(crate) fn end(&self) -> Option<()> {
+        self.rest.is_empty().then_some(())
+    }
 
-// The key set of a question, 514 bytes: it stands before every other field.
-pub(crate) fn key_set(asked: &[u8]) -> KeySet {
-    KeySet {
-        order: byte(asked, 1, 0),
-        bits: byte(asked, 2, 0),
-        round: round(asked, 3),
-        subkeys: subkeys(asked, 179),
-        full: block(asked, 483),
-        short: block(asked, 499),
+    pub(crate) fn byte(&mut self) -> Option<u8> {
+        let [byte] = self.array::<1>()?;
+        Some(byte)
     }
-}
 
-// The stream of a question, 64 bytes: it stands right behind the key set.
-pub(crate) fn stream(asked: &[u8]) -> Stream {
-    Stream {
-        total: number(asked, 515),
-        value: block(asked, 523),
-        held: block(asked, 539),
-        count: number(asked, 555),
-        whole: number(asked, 563),
-        four: number(asked, 571),
+    // A length, in two bytes.
+    fn short(&mut self) -> Option<usize> {
+        Some(usize::from(u16::from_be_bytes(self.array::<2>()?)))
     }
-}
 
-// The bytes that start with one and go on by a step, modulo 256.
-fn pattern(first: u8, step: u8, into: &mut [u8]) {
-    let n = into.len();
-    let mut v = first;
-    let mut i: usize = 0;
-    while i < n {
-        into[i] = v;
-        v = std::num::wrapping_add_u8(v, step);
-        i += 1;
+    // A length, in four.
+    fn long(&mut self) -> Option<usize> {
+        Some(u32::from_be_bytes(self.array::<4>()?) as usize)
     }
-}
 
-// No field is there, or one that is longer than it may be.
-fn missing() -> Field {
-    Field {
-        length: 0,
-        next: NOWHERE,
+    pub(crate) fn number(&mut self) -> Option<usize> {
+        Some(usize::from_be_bytes(self.array::<8>()?))
     }
-}
 
-// A bytes field that is written out.
-fn spelt<'a>(asked: &'a [u8], at: usize, into: &'a mut [u8]) -> Field {
-    let n = pair(asked, at);
-    if n > into.len() {
-        return missing();
+    pub(crate) fn key_set(&mut self) -> Option<KeySet> {
+        let order = self.byte()?;
+        let bits = self.byte()?;
+        let round = self.array::<176>()?;
+        let subkeys = self.array::<304>()?;
+        let full = self.array::<16>()?;
+        let short = self.array::<16>()?;
+        Some(KeySet {
+            order,
+            bits,
+            round,
+            subkeys,
+            full,
+            short,
+        })
     }
-    let start = past(asked, at, 2);
-    copy(asked, start, &mut into[..n]);
-    Field {
-        length: n,
-        next: past(asked, start, n),
-    }
-}
 
-// A bytes field that is given by a pattern.
-fn patterned<'a>(asked: &'a [u8], at: usize, into: &'a mut [u8]) -> Field {
-    let n = quad(asked, at);
-    if n > into.len() {
-        return missing();
+    pub(crate) fn stream(&mut self) -> Option<Stream> {
+        let total = self.number()?;
+        let value = self.array::<16>()?;
+        let held = self.array::<16>()?;
+        let count = self.number()?;
+        let whole = self.number()?;
+        let four = self.number()?;
+        Some(Stream {
+            total,
+            value,
+            held,
+            count,
+            whole,
+            four,
+        })
     }
-    pattern(byte(asked, at, 4), byte(asked, at, 5), &mut into[..n]);
-    Field {
-        length: n,
-        next: past(asked, at, 6),
-    }
-}
 
-// The bytes field at a place, laid into a space that has as many bytes as the field may have. Where the
-// call has no such field, the next one starts at that place.
-pub(crate) fn field_at<'a>(has: bool, asked: &'a [u8], at: usize, into: &'a mut [u8]) -> Field {
-    if !has {
-        return Field {
-            length: 0,
-            next: at,
-        };
+    // Bytes, laid into a space: they are written out, or given by a pattern.
+    pub(crate) fn bytes<'b>(&mut self, into: &'b mut [u8]) -> Option<&'b [u8]> {
+        match self.byte()? {
+            0 => self.spelt(into),
+            1 => self.patterned(into),
+            _ => None,
+        }
     }
-    let kind = byte(asked, at, 0);
-    let start = past(asked, at, 1);
-    if kind == 0 {
-        return spelt(asked, start, into);
-    }
-    if kind == 1 {
-        return patterned(asked, start, into);
-    }
-    missing()
-}
 
-// The space that is lent, likewise.
-pub(crate) fn space_at(has: bool, asked: &[u8], at: usize) -> Space {
-    if !has {
-        return Space {
-            size: 0,
-            fill: 0,
-            next: at,
-        };
+    fn spelt<'b>(&mut self, into: &'b mut [u8]) -> Option<&'b [u8]> {
+        let n = self.short()?;
+        let part = into.get_mut(..n)?;
+        part.copy_from_slice(self.part(n)?);
+        Some(part)
     }
-    let size = pair(asked, at);
-    if size > WIDEST {
-        return Space {
-            size: 0,
-            fill: 0,
-            next: NOWHERE,
-        };
+
+    // Each byte is the one before it and a step, modulo 256.
+    fn patterned<'b>(&mut self, into: &'b mut [u8]) -> Option<&'b [u8]> {
+        let part = into.get_mut(..self.long()?)?;
+        let mut next = self.byte()?;
+        let step = self.byte()?;
+        for byte in part.iter_mut() {
+            *byte = next;
+            next = next.wrapping_add(step);
+        }
+        Some(part)
     }
-    Space {
-        size,
-        fill: byte(asked, at, 2),
-        next: past(asked, at, 3),
+
+    // The space that is lent, filled.
+    pub(crate) fn space<'b>(&mut self, into: &'b mut [u8]) -> Option<&'b mut [u8]> {
+        let part = into.get_mut(..self.short()?)?;
+        part.fill(self.byte()?);
+        Some(part)
     }
 }

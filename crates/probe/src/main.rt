@@ -11,93 +11,51 @@ mod question;
 mod show;
 mod text;
 
-use question::Question;
-use std::io::Stdin;
-use text::{Reading, at_most};
+use fields::{Fields, Room};
+use std::io::{self, Read};
+use text::Line;
 
-// The characters of a line, and later its bytes: as many as a question may have, and one that makes it
-// too long.
-fn line_space() -> [u8; 16385] {
-    [0u8; 16385]
+// Answers a question, if the line is one.
+fn replied(rt: &impl Print, line: &Line, room: &mut Room) -> Option<io::Result<()>> {
+    let mut bytes = [0u8; 8192];
+    let rest = line.bytes(&mut bytes)?;
+    let mut fields = Fields { rest };
+    calls::made(rt, &mut fields, room)
 }
 
-// The first bytes field of a call: as many bytes as a message may have, and one that makes it too long.
-fn first_space() -> [u8; 1048577] {
-    [0u8; 1048577]
-}
-
-// The characters of the longest answer: a length, 4,096 bytes, a line feed.
-fn answer_space() -> [u8; 8209] {
-    [0u8; 8209]
-}
-
-// Makes the call of a question, and writes what it answers.
-fn reply<'a>(asked: &'a [u8], q: Question, first: &'a [u8], second: &'a [u8]) {
-    let f = at_most(q.first, first.len());
-    let s = at_most(q.second, second.len());
-    let mut out = answer_space();
-    let end = calls::made(asked, q, &first[..f], &second[..s], &mut out);
-    text::write_line(&mut out, end);
-}
-
-// Answers a line of so many characters. The bytes that they stand for take their place.
-fn answer<'a>(line: &'a mut [u8], count: usize, first: &'a mut [u8]) {
-    let n = at_most(text::decoded(line, count), line.len());
-    let mut second = io::buffer();
-    let q = question::parsed(&line[..n], first, &mut second);
-    reply(&line[..n], q, first, &second);
-}
-
-// Reads on, and answers the line where it has ended.
-fn take_line<'a>(r: Reading, part: &'a [u8], line: &'a mut [u8], first: &'a mut [u8]) -> Reading {
-    let t = text::read_on(r, part, line);
-    if !t.is_line {
-        return t;
+// Answers a line. That an answer cannot be written changes nothing for the next line.
+fn answer(rt: &impl Print, line: &Line, room: &mut Room) {
+    if replied(rt, line, room).is_none() {
+        let _ = println!(rt; "?");
     }
-    answer(line, t.count, first);
-    text::begun(0, t.from, t.end)
 }
 
-// One turn: more input where none is in hand, otherwise more of the line. At the end a line without its
-// line feed is answered too.
-fn take_turn<'a>(
-    input: Stdin,
-    r: Reading,
-    part: &'a mut [u8],
-    line: &'a mut [u8],
-    first: &'a mut [u8],
-) -> Reading {
-    if r.from < r.end {
-        return take_line(r, part, line, first);
-    }
-    let n = text::refilled(input, part);
-    if n > 0 {
-        return text::begun(r.count, 0, n);
-    }
-    if r.count == 0 {
-        return text::over();
-    }
-    answer(line, r.count, first);
-    text::over()
-}
-
-// A proved loop has to end, and nothing says that the input does: it has as many turns as no run uses up.
-fn run<'a>(input: Stdin, part: &'a mut [u8], line: &'a mut [u8], first: &'a mut [u8]) {
-    let mut r = text::begun(0, 0, 0);
-    let mut turns = u64::MAX;
-    while turns > 0 {
-        let next = take_turn(input, r, part, line, first);
-        if next.is_over {
-            return;
+// Takes a part of the input: each line that ends in it is answered.
+fn take(rt: &impl Print, part: &[u8], line: &mut Line, room: &mut Room) {
+    for c in part {
+        if *c == b'\n' {
+            answer(rt, line, room);
+            line.clear();
+        } else {
+            line.put(*c);
         }
-        r = next;
-        turns -= 1;
     }
 }
 
+// A proved loop has to end, and nothing says that the input does: it has as many turns as no run uses up. A
+// failed read counts as the end. A last line may lack its line feed.
 fn main(rt: HostRuntime) {
-    let mut part = io::large_buffer();
-    let mut line = line_space();
-    let mut first = first_space();
-    run(rt.stdin(), &mut part, &mut line, &mut first);
+    let mut part = [0u8; 65536];
+    let mut line = Line::new();
+    let mut room = Room::new();
+    for _ in 0..u64::MAX {
+        let n = rt.stdin().read(&mut part).unwrap_or(0);
+        if n == 0 {
+            break;
+        }
+        take(&rt, &part[..n], &mut line, &mut room);
+    }
+    if !line.is_empty() {
+        answer(&rt, &line, &mut room);
+    }
 }

@@ -1,105 +1,49 @@
-// Which fields a call has, and the question that they make. Behind the call's number they stand in one
-// order: those of fixed length, up to two bytes fields, a space that is lent.
-use crate::fields;
+// Which call a question asks for, by its number.
 
-// The calls, by their numbers.
-pub(crate) const KEY_CALL: u8 = 1;
-
-pub(crate) const READ: u8 = 2;
-
-pub(crate) const START: u8 = 3;
-
-pub(crate) const ADD: u8 = 4;
-
-pub(crate) const CLOSE: u8 = 5;
-
-pub(crate) const CHECK: u8 = 6;
-
-pub(crate) const TAG: u8 = 7;
-
-pub(crate) const VERIFY: u8 = 8;
-
-pub(crate) const DECODE: u8 = 9;
-
-pub(crate) const JUDGE: u8 = 10;
-
-pub(crate) const OPEN: u8 = 11;
-
-pub(crate) const OPEN_OR: u8 = 12;
-
-pub(crate) const OPEN_OR_KEEP: u8 = 13;
-
-pub(crate) const ENCODE: u8 = 14;
-
-pub(crate) const WRITE: u8 = 15;
-
-// A line that is no question.
-pub(crate) const NO_CALL: u8 = 0;
-
-// A question: the call's number; how many bytes its first and its second bytes field have; the size of
-// the space, and the byte that fills it.
 #[derive(Clone, Copy)]
-pub struct Question {
-    pub call: u8,
-    pub first: usize,
-    pub second: usize,
-    pub size: usize,
-    pub fill: u8,
+pub(crate) enum Call {
+    KeyCall,
+    Read,
+    Start,
+    Add,
+    Close,
+    Check,
+    Tag,
+    Verify,
+    Decode,
+    Judge,
+    Open,
+    OpenOr,
+    OpenOrKeep,
+    Encode,
+    Write,
 }
 
-// How many bytes a call's fields of fixed length have: order and tag length, 8 each; a key set, 514; a
-// key set and a stream, 64 more.
-fn fixed(call: u8) -> usize {
-    match call {
-        KEY_CALL => 16,
-        ADD | CLOSE | CHECK => 578,
-        TAG | VERIFY | JUDGE | OPEN | OPEN_OR | OPEN_OR_KEEP | WRITE => 514,
-        _ => 0,
-    }
-}
+// A number that is no call's.
+#[derive(Clone, Copy)]
+pub(crate) struct NoCall;
 
-// Whether a call has a bytes field.
-fn has_first(call: u8) -> bool {
-    match call {
-        KEY_CALL | READ | ADD | CHECK | TAG | VERIFY | DECODE | ENCODE => true,
-        JUDGE | OPEN | OPEN_OR | OPEN_OR_KEEP | WRITE => true,
-        _ => false,
-    }
-}
+impl TryFrom<u8> for Call {
+    type Error = NoCall;
 
-// Whether it has a second one.
-fn has_second(call: u8) -> bool {
-    match call {
-        KEY_CALL | VERIFY | OPEN_OR | OPEN_OR_KEEP => true,
-        _ => false,
-    }
-}
-
-// Whether a space is lent to it.
-fn is_lent(call: u8) -> bool {
-    match call {
-        CLOSE | TAG | DECODE | ENCODE | WRITE => true,
-        _ => false,
-    }
-}
-
-// The question that the bytes of a line are, with its bytes fields laid into two spaces. Where a field is
-// missing or too long, or where something stands behind the last, it is none.
-pub(crate) fn parsed<'a>(asked: &'a [u8], first: &'a mut [u8], second: &'a mut [u8]) -> Question {
-    let call = fields::byte(asked, 0, 0);
-    let start = fields::past(asked, 1, fixed(call));
-    let f = fields::field_at(has_first(call), asked, start, first);
-    let s = fields::field_at(has_second(call), asked, f.next, second);
-    let space = fields::space_at(is_lent(call), asked, s.next);
-    Question {
-        call: if space.next == asked.len() {
-            call
-        } else {
-            NO_CALL
-        },
-        first: f.length,
-        second: s.length,
-        size: space.size,
-        fill: space.fill,
+    fn try_from(number: u8) -> Result<Call, NoCall> {
+        match number {
+            1 => Ok(Call::KeyCall),
+            2 => Ok(Call::Read),
+            3 => Ok(Call::Start),
+            4 => Ok(Call::Add),
+            5 => Ok(Call::Close),
+            6 => Ok(Call::Check),
+            7 => Ok(Call::Tag),
+            8 => Ok(Call::Verify),
+            9 => Ok(Call::Decode),
+            10 => Ok(Call::Judge),
+            11 => Ok(Call::Open),
+            12 => Ok(Call::OpenOr),
+            13 => Ok(Call::OpenOrKeep),
+            14 => Ok(Call::Encode),
+            15 => Ok(Call::Write),
+            _ => Err(NoCall),
+        }
     }
 }
