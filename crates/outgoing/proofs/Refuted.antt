@@ -1,12 +1,7 @@
 -- Wrong outcomes that the promise does not permit.
 -- Assumes nothing.
-use mathlib.Core.Path.{◌≡◌, ap, ◌∙◌}
-use mathlib.Core.Bool.{true, false}
-use mathlib.Core.List.{List, [], ◌∷◌, append_assoc}
-use Prim.Native.Nat.{ℕ, ◌+◌, ◌-◌, ◌≤◌, ◌<◌}
-use native.Mathlib.Omega.{arith}
-use lib.ListN.{length, get_or, drop}
-use lib.Seq.{get_or_at}
+use Rattle.std.proofs.Common.{◌≡◌, ap, ◌∙◌, true, false, List, [], ◌∷◌, append_assoc, ℕ, ◌+◌, ◌-◌, ◌≤◌, ◌<◌, arith, length, get_or, drop}
+use Rattle.std.proofs.Math.Seq.{get_or_at}
 use Rattle.keys.specs.declared.KeySet.{KeySet}
 use Rattle.hex_line.specs.Line.{decoded}
 use Rattle.lines.specs.Lines.{line_feed}

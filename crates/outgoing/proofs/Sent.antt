@@ -1,21 +1,14 @@
 -- The characters at a body line, by what decoding it and writing its frame line answer; how many they are; and the text of them.
 -- Assumes nothing.
-use mathlib.Core.Path.{◌≡◌, refl, ap, sym, ◌∙◌}
-use mathlib.Core.Bool.{Bool, true, false}
-use mathlib.Core.Logic.{⊎_elim}
-use mathlib.Core.List.{List, [], ◌∷◌, ◌++◌}
-use Prim.Native.Nat.{ℕ, ◌+◌, ◌≤◌, ◌<◌}
-use native.Mathlib.Omega.{arith}
-use lib.Dec.{eqb}
-use lib.ListN.{length, take, drop, set, length-append}
-use borrow.Author.Tests.{eq-eqb, ne_eqb, eqb-true}
+use Rattle.std.proofs.Common.{◌≡◌, refl, ap, sym, ◌∙◌, Bool, true, false, ⊎_elim, List, [], ◌∷◌, ◌++◌, ℕ, ◌+◌, ◌≤◌, ◌<◌, arith, eqb, length}
+use Rattle.std.proofs.Common.{take, drop, set, length-append, eq-eqb, ne_eqb, eqb-true}
 use Rattle.laws.specs.Pick.{pick}
 use Rattle.laws.proofs.Both.{both_holds}
 use Rattle.laws.proofs.Cases.{none_or_some}
 use Rattle.block.specs.Bits.{bytes}
 use Rattle.keys.specs.declared.KeySet.{KeySet}
 use Rattle.message.specs.Answer.{tagged}
-use Rattle.hex_line.specs.declared.LineAnswer.{LineAnswer}
+use Rattle.hex_line.specs.Told.{LineAnswer}
 use Rattle.hex_line.specs.Answer.{decode_number, written_space}
 use Rattle.hex_line.specs.Line.{decoded}
 use Rattle.hex_line.specs.Promise.{DecodePromise}
@@ -24,7 +17,7 @@ use Rattle.hex_line.proofs.Told.{is_written, least_number}
 use Rattle.lines.specs.Lines.{line_feed}
 use Rattle.lines.specs.Moves.{Wrote}
 use Rattle.lines.proofs.Telling.{text_tells, fed_behind, wrote_none, wrote_front, front_wrote}
-use Rattle.writer.specs.declared.Written.{Written}
+use Rattle.writer.specs.Told.{Written}
 use Rattle.writer.specs.Line.{least_room, write_number, frame_of, line_of, refused_write, done_write, write_answer}
 use Rattle.writer.specs.Promise.{WritePromise}
 use Rattle.writer.proofs.Number.{Fits, writes_told, writes_none}

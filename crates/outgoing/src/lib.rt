@@ -12,7 +12,6 @@ ghost use Rattle.outgoing.specs.Promise.{TellPromise};
 
 use keys::KeySet;
 use lines::LINE_FEED;
-use numbers::DONE;
 
 // The most bytes of a text: the longest frame line, and its line feed.
 pub const MOST_TEXT: usize = 511;
@@ -24,13 +23,13 @@ fn lay<'a>(keys: KeySet, line: &'a [u8], space: &'a mut [u8]) -> usize
     ensures { Wrote (sent_line keys line.now) space.old 0 result space.new }
 {
     let mut body = [0u8; 255];
-    let d = hex_line::decode(line, &mut body);
-    if d.number != DONE {
+    let Ok(end) = hex_line::decode(line, &mut body) else {
         return 0;
+    };
+    match writer::write(keys, &body[..end], space) {
+        Ok(sent) => sent.length,
+        Err(_) => 0,
     }
-    let end = d.written;
-    let w = writer::write(keys, &body[..end], space);
-    w.written
 }
 
 // Writes the text at a body line at the front of a lent space, and hands back how long it is; where the

@@ -1,10 +1,8 @@
 -- `outgoing::tell` meets its contract. By whether the space has room for the longest text.
 -- Assumes nothing.
-use Prim.Native.Nat.{◌<◌}
-use lib.ListN.{length}
+use Rattle.std.proofs.Common.{◌<◌, length, rules}
 use Rattle.lines.proofs.Telling.{tells_nothing}
 use Rattle.outgoing.proofs.Sent.{fed_within, tells_fed}
-use borrow.Author.Rules.{rules}
 use Rattle.outgoing.proofs.tell.Goals as goal
 use Rattle.outgoing.proofs.tell.Goals.{After-lay-end}
 
