@@ -1,7 +1,7 @@
 -- Each refusal has a number of its own, which is not 0.
 -- Assumes nothing.
 use Rattle.std.specs.Prelude.{◌≡◌, refl, Result, Ok, Err, [], ◌∷◌, ℕ, ◌+◌, get_or}
-use Rattle.std.proofs.Common.{ap, sym, ◌∙◌, arith}
+use Rattle.std.proofs.Common.{ap, sym, ◌∙◌, IsErrAnd, arith}
 use denote.Enum.Declared.{tag_of}
 use Rattle.numbers.specs.contracts.Refusal.{the_type}
 use Rattle.numbers.specs.declared.Refusal.{Refusal}
@@ -58,3 +58,8 @@ number_once (Ok a) (Ok b) e = refl
 number_once (Ok a) (Err why') e = absurd (not_done why' (sym e))
 number_once (Err why) (Ok b) e = absurd (not_done why e)
 number_once (Err why) (Err why') e = ap Err (number_of_once why why' e)
+
+-- what `?` hands on is the refusal that it met
+pub handed_on : {A : Type 0} (r : Result A Refusal) {why : Refusal} → IsErrAnd r (λ y. y ≡ why) → r ≡ Err why
+handed_on (Ok a) h = absurd h
+handed_on (Err y) h = ap Err h

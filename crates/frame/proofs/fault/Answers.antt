@@ -1,17 +1,15 @@
 -- `frame::fault` meets its contract. One test after the other.
 -- Assumes nothing.
 use Rattle.std.proofs.Common.{refl, arith}
-use Rattle.std.proofs.lemmas.Result.{err_from_is_err_and}
 use Rattle.numbers.specs.Told.{number, number_of}
-use Rattle.numbers.proofs.Number.{not_done}
+use Rattle.numbers.proofs.Number.{not_done, handed_on}
 use Rattle.frame.proofs.Number.{frame_set, frame_long, frame_short, frame_none}
 use Rattle.frame.proofs.fault.Goals as goal
 
 pub returns-in_err-set_fault : goal.returns-in_err-set_fault
 unfolding number
 returns-in_err-set_fault c =
-    let p = err_from_is_err_and c.from_residual.result c.from_residual.ensures.1 in
-    rw (p.1, p.2) (frame_set _ _ c.in_err-set_fault.ensures (not_done _))
+    rw (handed_on c.from_residual.result c.from_residual.ensures.1) (frame_set _ _ c.in_err-set_fault.ensures (not_done _))
 
 pub returns-then-n-gt-LONGEST : goal.returns-then-n-gt-LONGEST
 unfolding number number_of

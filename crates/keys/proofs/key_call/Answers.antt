@@ -1,11 +1,11 @@
 -- `keys::key_call` meets its contract. Refused where there is a fault; otherwise number 0 tells that both keys have sixteen bytes.
 -- Assumes nothing.
 use Rattle.std.proofs.Common.{◌≡◌, sym, ◌∙◌, arith, length}
-use Rattle.std.proofs.lemmas.Result.{err_from_is_err_and}
 use Rattle.block.proofs.Sixteen.{sixteen_all}
 use Rattle.laws.proofs.UpTo.{Within}
 use Rattle.numbers.specs.Told.{number}
 use Rattle.keys.specs.Answer.{key_number}
+use Rattle.numbers.proofs.Number.{handed_on}
 use Rattle.keys.proofs.Number.{number_faultless, answer_err, answer_done, meant_within}
 use Rattle.keys.proofs.key_call.Goals as goal
 use Rattle.keys.proofs.key_call.Goals.{In_ok-fault}
@@ -17,8 +17,7 @@ no_number c = sym c.in_ok-fault.ensures
 
 pub returns-in_err-fault : goal.returns-in_err-fault
 returns-in_err-fault c =
-    let p = err_from_is_err_and c.from_residual.result c.from_residual.ensures.1 in
-    rw (p.1, p.2) (answer_err _ _ _ _ _ c.in_err-fault.ensures)
+    rw (handed_on c.from_residual.result c.from_residual.ensures.1) (answer_err _ _ _ _ _ c.in_err-fault.ensures)
 
 pub overflow_cast-order : goal.overflow_cast-order
 overflow_cast-order c =

@@ -1,15 +1,14 @@
 -- `stream::add` meets its contract. By the first fault.
 -- Assumes nothing.
 use Rattle.std.proofs.Common.{sym}
-use Rattle.std.proofs.lemmas.Result.{err_from_is_err_and}
 use Rattle.numbers.specs.Told.{number}
+use Rattle.numbers.proofs.Number.{handed_on}
 use Rattle.stream.proofs.Number.{adds, add_err, add_ok}
 use Rattle.stream.proofs.add.Goals as goal
 
 pub returns-in_err-add_fault : goal.returns-in_err-add_fault
 returns-in_err-add_fault c =
-    let p = err_from_is_err_and c.from_residual.result c.from_residual.ensures.1 in
-    rw (p.1, p.2) (add_err _ _ _ _ c.in_err-add_fault.ensures)
+    rw (handed_on c.from_residual.result c.from_residual.ensures.1) (add_err _ _ _ _ c.in_err-add_fault.ensures)
 
 pub extended-requires : goal.extended-requires
 unfolding number

@@ -1,16 +1,15 @@
 -- `stream::close` meets its contract. By the first fault.
 -- Assumes nothing.
 use Rattle.std.proofs.Common.{sym}
-use Rattle.std.proofs.lemmas.Result.{err_from_is_err_and}
 use Rattle.numbers.specs.Told.{number}
 use Rattle.tag.proofs.Answered.{making_err, making_stays, making_written}
+use Rattle.numbers.proofs.Number.{handed_on}
 use Rattle.stream.proofs.Number.{closes}
 use Rattle.stream.proofs.close.Goals as goal
 
 pub returns-in_err-close_fault : goal.returns-in_err-close_fault
 returns-in_err-close_fault c =
-    let p = err_from_is_err_and c.from_residual.result c.from_residual.ensures.1 in
-    rw (p.1, p.2) (making_err _ _ _ c.in_err-close_fault.ensures, making_stays _ _ _ c.in_err-close_fault.ensures _)
+    rw (handed_on c.from_residual.result c.from_residual.ensures.1) (making_err _ _ _ c.in_err-close_fault.ensures, making_stays _ _ _ c.in_err-close_fault.ensures _)
 
 pub sealed-requires : goal.sealed-requires
 unfolding number

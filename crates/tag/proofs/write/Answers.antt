@@ -1,8 +1,8 @@
 -- `tag::write` meets its contract. By the first fault of the tag length and the slice.
 -- Assumes nothing.
 use Rattle.std.proofs.Common.{rules, sym, length, ◌≤◌, length-take-le}
-use Rattle.std.proofs.lemmas.Result.{err_from_is_err_and}
 use Rattle.numbers.specs.Told.{number}
+use Rattle.numbers.proofs.Number.{handed_on}
 use Rattle.tag.proofs.Answered.{making_err, making_stays, slice_made}
 use Rattle.tag.proofs.Number.{suits}
 use Rattle.tag.proofs.Tagged.{tag_written}
@@ -11,8 +11,7 @@ use Rattle.tag.proofs.write.Goals.{After-kept-tag}
 
 pub returns-in_err-fault : goal.returns-in_err-fault
 returns-in_err-fault c =
-    let p = err_from_is_err_and c.from_residual.result c.from_residual.ensures.1 in
-    rw (p.1, p.2) (making_err _ _ _ c.in_err-fault.ensures, making_stays _ _ _ c.in_err-fault.ensures _)
+    rw (handed_on c.from_residual.result c.from_residual.ensures.1) (making_err _ _ _ c.in_err-fault.ensures, making_stays _ _ _ c.in_err-fault.ensures _)
 
 -- the slice is no longer than the block of which the tag is the front
 fits : (c : After-kept-tag) → length c.args.slice.now ≤ length c.kept-tag.result

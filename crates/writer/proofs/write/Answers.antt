@@ -1,11 +1,11 @@
 -- `writer::write` meets its contract. By the first fault; then the tag is made, the body is laid, and behind it the tag.
 -- Assumes nothing.
 use Rattle.std.proofs.Common.{◌≡◌, sym, ◌∙◌, List, ℕ, ◌+◌, length, take, length-take-le, ◌≤◌, refl, arith, rules}
-use Rattle.std.proofs.lemmas.Result.{err_from_is_err_and}
 use Rattle.numbers.specs.Told.{number}
 use Rattle.tag.specs.Tag.{tag_bytes}
 use Rattle.hex_line.proofs.Told.{encoded_refused}
 use Rattle.writer.specs.Line.{write_number}
+use Rattle.numbers.proofs.Number.{handed_on}
 use Rattle.writer.proofs.Number.{Fits, writes_told}
 use Rattle.writer.proofs.Laid.{write_refused, tag_refused, body_room, end_within, more_refused, line_within, written_whole}
 use Rattle.writer.proofs.write.Goals as goal
@@ -22,8 +22,7 @@ fits c = (writes_told _ _ _ (none c)).1
 pub returns-in_err-fault : goal.returns-in_err-fault
 unfolding number
 returns-in_err-fault c =
-    let p = err_from_is_err_and c.from_residual.result c.from_residual.ensures.1 in
-    rw (p.1, p.2) (write_refused _ _ _ _ c.in_err-fault.ensures)
+    rw (handed_on c.from_residual.result c.from_residual.ensures.1) (write_refused _ _ _ _ c.in_err-fault.ensures)
 
 pub slice_bounds-made-end : goal.slice_bounds-made-end
 slice_bounds-made-end c = omega (arith, c.size.ensures, (fits (goal.at.slice_bounds-made-end c).In_ok-fault).set.tag.high)
