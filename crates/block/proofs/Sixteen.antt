@@ -1,12 +1,12 @@
 -- A list as sixteen bytes: cut where it is longer, filled with zeros where it is shorter; a block with a part behind it, byte by byte.
 -- Assumes nothing.
-use mathlib.Core.Path.{◌≡◌, ap, ap₂, sym, ◌∙◌}
+use mathlib.Core.Path.{◌≡◌, ap₂, sym, ◌∙◌}
 use mathlib.Core.List.{List, ◌++◌}
 use Prim.Native.Nat.{ℕ, ◌+◌, ◌-◌, ◌≤◌, ◌<◌}
 use native.Mathlib.Omega.{arith}
 use lib.ListN.{length, get_or, take, drop, replicate, length-drop, get_or-replicate}
 use lib.ListN.{length-take, get_or-append, get_or-eq_default}
-use lib.Seq.{ext_get_or, length-take-le, get_or-take, get_or-append-add}
+use lib.Seq.{ext_get_or, get_or-take}
 use Rattle.laws.proofs.Filled.{filled_length, filled_at, filled_long, filled_short, filled_front, filled_all}
 use Rattle.block.specs.Block.{zeros, sixteen}
 
@@ -62,10 +62,3 @@ sixteen_all x h = filled_all 16 x h
 pub joined_front : (x part : List ℕ) (n i : ℕ) → i < n → i < length x → get_or (take n x ++ part) i 0 ≡ get_or x i 0
 joined_front x part n i a b =
     get_or-append (take n x) part 0 i (simp length-take (omega arith)) ∙ get_or-take n x i 0 a
-
--- and a byte of the part
-pub joined_behind : (x part : List ℕ) (n i : ℕ) → n ≤ i → n ≤ length x → get_or (take n x ++ part) i 0 ≡ get_or part (i - n) 0
-joined_behind x part n i a b =
-    let l : length (take n x) ≡ n = length-take-le n x b in
-    let e : length (take n x) + (i - n) ≡ i = omega arith in
-    ap (λ (j : ℕ). get_or (take n x ++ part) j 0) (sym e) ∙ get_or-append-add (take n x) part (i - n) 0

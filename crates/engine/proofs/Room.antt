@@ -34,7 +34,7 @@ room_roomy c h = rw (le-leb c.whole count_limit h.wholes, le-leb c.four count_li
 
 module _ (c : Chain) where
   -- the whole-cipher steps have none
-  pub roomy_not : count_limit < c.whole → false ≡ roomy c
+  pub roomy_not : count_limit < c.whole → leb c.whole count_limit ≡ roomy c
   unfolding roomy
   roomy_not a = rw (lt-leb c.whole count_limit a)
 

@@ -10,7 +10,6 @@ use native.Mathlib.Omega.{arith}
 use lib.ListN.{length}
 use borrow.Author.Tests.{eq-eqb, ne_eqb}
 use Rattle.aes.specs.Cipher.{cipher}
-use Rattle.aes.specs.FourRounds.{four_rounds}
 use Rattle.block.specs.Block.{Block, zeros, ◌⊕◌, padded, cut}
 use Rattle.chain.specs.declared.Chain.{Chain}
 use Rattle.pcmac.specs.Functions.{G}
@@ -23,11 +22,6 @@ use Rattle.keys.specs.Answer.{set_of}
 use Rattle.keys.specs.KeysIn.{keys_in}
 use Rattle.keys.proofs.KeysIn.{in_alike}
 use Rattle.engine.specs.Engine.{chain_step, closing, sealing}
-
--- G under U_w, from its three parts
-pub four_is : (subkeys : List ℕ) (w : ℕ) (x u1 u2 u3 r : Block) → u1 ≡ u_part subkeys w 1 → u2 ≡ u_part subkeys w 2
-    → u3 ≡ u_part subkeys w 3 → r ≡ four_rounds u1 u2 u3 x → r ≡ G (u_part subkeys w) x
-four_is subkeys w x u1 u2 u3 r e₁ e₂ e₃ e = e ∙ (λ i. four_rounds (e₁ i) (e₂ i) (e₃ i) x)
 
 module _ (round subkeys : List ℕ) (w : ℕ) (s b : Block) where
   -- at place 0

@@ -1,11 +1,10 @@
 -- A run of whole blocks: from its start, by one block more, to its end.
 -- Assumes nothing.
-use mathlib.Core.Path.{◌≡◌, refl, ap, sym, ◌∙◌}
-use mathlib.Core.List.{List}
-use Prim.Native.Nat.{ℕ, ◌+◌, ◌-◌, ◌*◌, ◌/◌, ◌%◌, ◌≤◌, ◌<◌}
-use native.Mathlib.Nat.{mod-add-mod, mod-lt}
-use native.Mathlib.Omega.{arith}
-use lib.ListN.{length, take, drop}
+use Rattle.std.proofs.Common.{◌≡◌, refl, ap, sym, ◌∙◌, List, [], ℕ, zero, suc, ◌+◌, ◌-◌, ◌*◌, ◌/◌, ◌%◌, ◌≤◌, ◌<◌, arith}
+use Rattle.std.proofs.Common.{length, get_or, take, drop, mod-lt}
+use native.Mathlib.Nat.{mod-add-mod}
+use lib.Seq.{drop-drop}
+use Rattle.std.specs.Simd.{first_chunks}
 use Rattle.block.specs.Block.{block_of}
 use Rattle.chain.specs.declared.Chain.{Chain}
 use Rattle.chain.specs.Stream.{after}
@@ -39,6 +38,14 @@ pub walking_room : {d done w i : ℕ} {f : Step} {c r : Chain} {part : List ℕ}
 walking_room {d} {done} {w} {i} {f} {c} {r} {part} s =
     let g = walk_raised d f (after done part) (done + 1) i c in
     rw s.is (omega (arith, s.room.wholes, g.whole_most), omega (arith, s.room.fours, g.four_most))
+
+-- the chunks of a part are its blocks
+pub chunk_at : (k : ℕ) (part : List ℕ) (i : ℕ) → i < k → get_or (first_chunks 16 k part) i [] ≡ take 16 (drop (16 * i) part)
+chunk_at zero part i h = absurd (omega arith)
+chunk_at (suc k) part zero h = refl
+chunk_at (suc k) part (suc i) h =
+    let e : 16 + 16 * i ≡ 16 * suc i = omega arith in
+    chunk_at k (drop 16 part) i (omega arith) ∙ ap (take 16) (drop-drop (16 * i) 16 part ∙ ap (λ (n : ℕ). drop n part) e)
 
 -- block done + 1 + i of the message is the part's from byte 16 i on
 block_number : (done i : ℕ) (part : List ℕ) → after done part (done + 1 + i) ≡ take 16 (drop (16 * i) part)

@@ -19,17 +19,61 @@ use chain::Chain;
 // has room for all of them.
 const COUNT_LIMIT: usize = 9223372036854775808;
 
-// G under U_w.
-fn four(subkeys: &[u8; 304], w: usize, x: [u8; 16]) -> [u8; 16]
-    ensures { result ≡ G (u_part subkeys.now w) x }
-{
-    let u1 = keys::u_part(subkeys, w, 1);
-    let u2 = keys::u_part(subkeys, w, 2);
-    let u3 = keys::u_part(subkeys, w, 3);
-    aes::four_rounds(u1, u2, u3, x)
+// What the steps of a chain are taken under: the round keys of E, and the subkeys.
+#[derive(Clone, Copy)]
+struct Keys<'a> {
+    round: &'a [u8; 176],
+    subkeys: &'a [u8; 304],
 }
 
-// One step of the chain: the value s and the block b at place w of the cycle.
+impl<'a> Keys<'a> {
+    // G under U_w.
+    fn four(self, w: usize, x: [u8; 16]) -> [u8; 16]
+        ensures { result ≡ G (u_part self.entry.subkeys.now w) x }
+    {
+        let u1 = keys::u_part(self.subkeys, w, 1);
+        let u2 = keys::u_part(self.subkeys, w, 2);
+        let u3 = keys::u_part(self.subkeys, w, 3);
+        aes::four_rounds(u1, u2, u3, x)
+    }
+
+    // One step of the chain: the value s and the block b at place w of the cycle.
+    fn step(self, w: usize, s: [u8; 16], b: [u8; 16]) -> [u8; 16]
+        ensures { StepPromise self.entry.round.now self.entry.subkeys.now w s b result }
+    {
+        if w == 0 {
+            return aes::encrypt_block(self.round, block::xor(s, b));
+        }
+        if w == 1 {
+            return self.four(1, block::xor(s, b));
+        }
+        let x = keys::x_key(self.subkeys, w - 1);
+        self.four(w, block::xor(block::xor(s, x), b))
+    }
+
+    // The same, counted as it is taken.
+    fn take_step(self, w: usize, c: Chain, b: [u8; 16]) -> Chain
+        requires { (c.whole < 18446744073709551615) × (c.four < 18446744073709551615) }
+        ensures { result ≡ stepped (chain_step self.entry.round.now self.entry.subkeys.now) w b c }
+    {
+        let value = self.step(w, c.value, b);
+        if w == 0 {
+            Chain {
+                value,
+                whole: c.whole + 1,
+                four: c.four,
+            }
+        } else {
+            Chain {
+                value,
+                whole: c.whole,
+                four: c.four + 1,
+            }
+        }
+    }
+}
+
+// One step of the chain under these keys: the value s and the block b at place w of the cycle.
 pub fn step<'a>(
     round: &'a [u8; 176],
     subkeys: &'a [u8; 304],
@@ -39,41 +83,7 @@ pub fn step<'a>(
 ) -> [u8; 16]
     ensures { StepPromise round.now subkeys.now w s b result }
 {
-    if w == 0 {
-        return aes::encrypt_block(round, block::xor(s, b));
-    }
-    if w == 1 {
-        return four(subkeys, 1, block::xor(s, b));
-    }
-    let x = keys::x_key(subkeys, w - 1);
-    four(subkeys, w, block::xor(block::xor(s, x), b))
-}
-
-// A step of the chain, counted as it is taken.
-fn take_step<'a>(
-    round: &'a [u8; 176],
-    subkeys: &'a [u8; 304],
-    w: usize,
-    c: Chain,
-    b: [u8; 16],
-) -> Chain
-    requires { (c.whole < 18446744073709551615) × (c.four < 18446744073709551615) }
-    ensures { result ≡ stepped (chain_step round.now subkeys.now) w b c }
-{
-    let s = c.value;
-    let value = step(round, subkeys, w, s, b);
-    if w == 0 {
-        return Chain {
-            value,
-            whole: c.whole + 1,
-            four: c.four,
-        };
-    }
-    Chain {
-        value,
-        whole: c.whole,
-        four: c.four + 1,
-    }
+    Keys { round, subkeys }.step(w, s, b)
 }
 
 // The place after w in the cycle of the order d.
@@ -88,10 +98,7 @@ fn place_after(d: usize, w: usize) -> usize
 fn has_room(c: Chain) -> bool
     ensures { result ≡ roomy c }
 {
-    if c.whole > COUNT_LIMIT {
-        return false;
-    }
-    c.four <= COUNT_LIMIT
+    c.whole <= COUNT_LIMIT && c.four <= COUNT_LIMIT
 }
 
 // The chain after the whole blocks of a part, taken where they lie, which follow the first `done`
@@ -109,17 +116,15 @@ pub fn absorb<'a>(
     if !has_room(c) {
         return c;
     }
+    let keys = Keys { round, subkeys };
     let d = order as usize;
-    let n = part.len() / 16;
+    let (blocks, _) = part.as_chunks::<16>();
     let mut r = c;
     let mut w = done % (d + 1);
-    let mut i: usize = 0;
-    while i < n {
-        let b = block::read(part, 16 * i);
-        let next = take_step(round, subkeys, w, r, b);
+    for b in blocks {
+        let next = keys.take_step(w, r, *b);
         r = next;
         w = place_after(d, w);
-        i += 1;
     }
     r
 }

@@ -1,19 +1,15 @@
 -- `block::pad` meets its contract. By whether the block is full.
 -- Assumes nothing.
-use mathlib.Core.Path.{ap, sym, ◌∙◌}
+use mathlib.Core.Path.{ap, ◌∙◌}
 use mathlib.Core.List.{List}
 use Prim.Native.Nat.{ℕ}
 use lib.ListN.{set}
-use lib.Seq.{length-take-le}
 use Rattle.block.proofs.Padding.{pad_full, pad_short}
 use borrow.Author.Rules.{rules}
 use Rattle.block.proofs.pad.Goals as goal
 
 pub returns-then-n-ge16 : goal.returns-then-n-ge16
 returns-then-n-ge16 c = pad_full c.args.x c.args.n (search rules) (λ j. search rules) (search rules)
-
-pub slice_bounds-read-end : goal.slice_bounds-read-end
-slice_bounds-read-end c = sym (length-take-le _ _ (search rules))
 
 pub returns : goal.returns
 returns c =

@@ -1,8 +1,8 @@
--- `engine::step` meets its contract. By the three kinds of step.
+-- `engine::Keys::step` meets its contract. By the three kinds of step.
 -- Assumes nothing.
 use Rattle.engine.proofs.Together.{whole_is, first_is, later_is}
 use borrow.Author.Rules.{rules}
-use Rattle.engine.proofs.step.Goals as goal
+use Rattle.engine.proofs.Keys.step.Goals as goal
 
 pub returns-then-w-eq0 : goal.returns-then-w-eq0
 returns-then-w-eq0 c =

@@ -1,9 +1,0 @@
--- `state::xor_word` meets its contract: each byte is what the closure gives of its place.
--- Assumes nothing.
-use Rattle.std.proofs.Common.{rules, get_or}
-use Rattle.laws.proofs.Made.{made_table}
-use Rattle.field.specs.Field.{◌⊕◌}
-use Rattle.state.proofs.xor_word.Goals as goal
-
-pub returns : goal.returns
-returns c = made_table 0 (λ j. get_or c.args.p j 0 ⊕ get_or c.args.q j 0) c.from_fn.ensures.items (λ i y q h made. search rules)
