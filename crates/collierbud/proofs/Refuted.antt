@@ -1,17 +1,10 @@
 -- Wrong outcomes that the promises do not permit, where the code of a wrong program would have another shape.
 -- Assumes nothing.
-use mathlib.Core.Path.{◌≡◌, refl, ap, sym, ◌∙◌}
-use mathlib.Core.Bool.{Bool, true, false}
-use mathlib.Core.List.{List}
-use mathlib.Core.Logic.{⊎_elim}
-use Prim.Native.Nat.{ℕ, zero, suc, ◌≤◌}
-use native.Mathlib.Omega.{arith}
-use lib.ListN.{length, get_or}
-use borrow.Author.Tests.{ne_eqb}
+use Rattle.std.proofs.Common.{◌≡◌, refl, ap, sym, ◌∙◌, Bool, true, false, List, ⊎_elim, ℕ, zero, suc, ◌≤◌, arith, length, get_or, ne_eqb}
 use Rattle.pcmac.specs.Taggen.{Tagged}
 use Rattle.keys.specs.declared.KeySet.{KeySet}
 use Rattle.keys.specs.Answer.{key_answer}
-use Rattle.tag.specs.declared.TagAnswer.{TagAnswer}
+use Rattle.tag.specs.Told.{TagAnswer}
 use Rattle.tag.specs.Answer.{refused_tag, checked_tag, making_answer, making_slice, checking_answer}
 use Rattle.tag.proofs.Answered.{making_number, making_refused, making_left, checking_number}
 use Rattle.message.specs.Answer.{tagged}

@@ -1,3 +1,4 @@
 pub mod Answer
+pub mod Inner
 pub mod Promise
 pub mod Unsaid

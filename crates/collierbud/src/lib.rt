@@ -11,81 +11,75 @@
 #![tactic(auto)]
 
 ghost use Rattle.std.specs.Prelude.{◌≡◌, length};
-ghost use Rattle.collierbud.specs.Answer.{start_number, tagging, tagged_space, checking, opening};
-ghost use Rattle.collierbud.specs.Answer.{two_counts, three_counts};
+ghost use Rattle.keys.specs.Told.{told_keys};
+ghost use Rattle.tag.specs.Told.{told_made, told_checked};
+ghost use Rattle.frame.specs.Told.{told_frame};
+ghost use Rattle.collierbud.specs.Answer.{tagging, tagged_space, checking, opening};
+ghost use Rattle.collierbud.specs.Inner.{Starts, counted};
 ghost use Rattle.collierbud.specs.Promise.{TagPromise, CheckPromise, OpenPromise};
 
-use frame::FrameAnswer;
-use keys::KeyAnswer;
-use numbers::{BAD_SIZE, DONE};
-use tag::TagAnswer;
+use frame::{FrameAnswer, Judged};
+use keys::{KeySet, Made};
+use numbers::Refusal;
+use tag::{Checked, Counts};
 
-// The first fault before the call under the key set: the key call's, or a slice for the counts that
-// has not just n places.
-fn start_fault(number: u8, n: usize, places: usize) -> u8
-    ensures { result ≡ start_number number n places }
+// The key set that was made, unless the key call refuses, or a slice for the counts has not just n places.
+fn start(made: Result<Made, Refusal>, n: usize, places: usize) -> Result<KeySet, Refusal>
+    ensures { Starts (told_keys made) n places result }
 {
-    if number != DONE {
-        return number;
+    let made = made?;
+    if places == n {
+        Ok(made.keys)
+    } else {
+        Err(Refusal::BadSize)
     }
-    if places == n { DONE } else { BAD_SIZE }
 }
 
 // The tag of a message under the key set that was made, where there is no fault before.
-fn tagged<'a>(made: KeyAnswer, places: usize, message: &'a [u8], space: &'a mut [u8]) -> TagAnswer
-    ensures value { result ≡ tagging made places message.now (length space.old) }
-    ensures space_after { space.new ≡ tagged_space made places message.now space.old }
+fn tagged<'a>(
+    made: Result<Made, Refusal>,
+    places: usize,
+    message: &'a [u8],
+    space: &'a mut [u8],
+) -> Result<Counts, Refusal>
+    ensures value { told_made result ≡ tagging (told_keys made) places message.now (length space.old) }
+    ensures space_after { space.new ≡ tagged_space (told_keys made) places message.now space.old }
 {
-    let fault = start_fault(made.number, 2, places);
-    if fault != DONE {
-        return tag::refused(fault);
-    }
-    let keys = made.keys;
+    let keys = start(made, 2, places)?;
     message::tag(keys, message, space)
 }
 
 // The verdict on a received tag, where there is no fault before.
-fn checked<'a>(made: KeyAnswer, places: usize, message: &'a [u8], received: &'a [u8]) -> TagAnswer
-    ensures { result ≡ checking made places message.now received.now }
+fn checked<'a>(
+    made: Result<Made, Refusal>,
+    places: usize,
+    message: &'a [u8],
+    received: &'a [u8],
+) -> Checked
+    ensures { told_checked result ≡ checking (told_keys made) places message.now received.now }
 {
-    let fault = start_fault(made.number, 2, places);
-    if fault != DONE {
-        return tag::refused(fault);
+    match start(made, 2, places) {
+        Ok(keys) => message::verify(keys, message, received),
+        Err(why) => tag::unchecked(why),
     }
-    let keys = made.keys;
-    message::verify(keys, message, received)
 }
 
 // The verdict on a frame, where there is no fault before.
-fn opened(made: KeyAnswer, places: usize, frame: &[u8]) -> FrameAnswer
-    ensures { result ≡ opening made places frame.now }
+fn opened(made: Result<Made, Refusal>, places: usize, frame: &[u8]) -> Judged
+    ensures { told_frame result ≡ opening (told_keys made) places frame.now }
 {
-    let fault = start_fault(made.number, 3, places);
-    if fault != DONE {
-        return frame::refused(fault);
-    }
-    let keys = made.keys;
-    frame::judge(keys, frame)
-}
-
-// The two counts of an answer into a slice of just two numbers.
-fn put_two(a: TagAnswer, counts: &mut [u64])
-    ensures { counts.new ≡ two_counts a counts.old }
-{
-    if counts.len() == 2 {
-        counts[0] = a.whole as u64;
-        counts[1] = a.four as u64;
+    match start(made, 3, places) {
+        Ok(keys) => frame::judge(keys, frame),
+        Err(why) => Judged::from(why),
     }
 }
 
-// The two counts of a verdict on a frame and its body's length into a slice of just three numbers.
-fn put_three(a: FrameAnswer, counts: &mut [u64])
-    ensures { counts.new ≡ three_counts a counts.old }
+// What is counted into a slice of just as many numbers.
+fn put(told: &[u64], counts: &mut [u64])
+    ensures { counts.new ≡ counted told.now counts.old }
 {
-    if counts.len() == 3 {
-        counts[0] = a.whole as u64;
-        counts[1] = a.four as u64;
-        counts[2] = a.body as u64;
+    if counts.len() == told.len() {
+        counts.copy_from_slice(told);
     }
 }
 
@@ -104,9 +98,10 @@ pub extern "C" fn collierbud_tag<'a>(
         counts.old result space.new counts.new }
 {
     let made = keys::key_call(order, bits, k, l);
-    let a = tagged(made, counts.len(), message, space);
-    put_two(a, counts);
-    a.number
+    let outcome = tagged(made, counts.len(), message, space);
+    let taken = outcome.unwrap_or(Counts { whole: 0, four: 0 });
+    put(&[taken.whole as u64, taken.four as u64], counts);
+    numbers::told(outcome.and(Ok(())))
 }
 
 // The verdict on a received tag for a message, under K and L.
@@ -125,8 +120,8 @@ pub extern "C" fn collierbud_check<'a>(
 {
     let made = keys::key_call(order, bits, k, l);
     let a = checked(made, counts.len(), message, received);
-    put_two(a, counts);
-    a.number
+    put(&[a.counts.whole as u64, a.counts.four as u64], counts);
+    numbers::told(a.outcome)
 }
 
 // The verdict on a frame under K and L: the body is the first bytes of the frame, as many as the third
@@ -144,7 +139,7 @@ pub extern "C" fn collierbud_open<'a>(
         result counts.new }
 {
     let made = keys::key_call(order, bits, k, l);
-    let a = opened(made, counts.len(), frame);
-    put_three(a, counts);
+    let a = FrameAnswer::from(opened(made, counts.len(), frame));
+    put(&[a.whole as u64, a.four as u64, a.body as u64], counts);
     a.number
 }

@@ -1,8 +1,7 @@
--- `collierbud::collierbud_check` meets its contract. What its three calls ensure, one in the other.
+-- `collierbud::collierbud_check` meets its contract. What its calls ensure, one in the other.
 -- Assumes nothing.
 use Rattle.collierbud.proofs.Together.{check_together}
 use Rattle.collierbud.proofs.collierbud_check.Goals as goal
 
 pub returns : goal.returns
-returns c =
-    check_together _ _ _ _ c.key_call-made.ensures _ _ _ c.checked-a.ensures c.put_two.ensures
+returns c = check_together _ _ _ _ c.key_call-made.ensures _ _ _ c.checked-a.result c.checked-a.ensures c.told.ensures c.put.ensures
