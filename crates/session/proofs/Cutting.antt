@@ -1,14 +1,7 @@
 -- An input in parts, call by call: what was written is what the reader says over the bytes that were taken.
 -- Assumes nothing.
-use mathlib.Core.Path.{◌≡◌, refl, ap, ap₂, sym, ◌∙◌}
-use mathlib.Core.Bool.{Bool, true, false}
-use mathlib.Core.List.{List, [], ◌∷◌, ◌++◌, append-nil}
-use Prim.Native.Nat.{ℕ, zero, suc, ◌*◌, ◌≤◌}
-use native.Mathlib.Omega.{arith}
-use lib.Dec.{eqb}
-use lib.ListN.{length, take}
-use lib.Seq.{take_all}
-use borrow.Author.Tests.{leb-true}
+use Rattle.std.specs.Prelude.{◌≡◌, refl, Bool, true, false, List, [], ◌∷◌, ◌++◌, ℕ, zero, suc, ◌*◌, ◌≤◌, eqb, length, take}
+use Rattle.std.proofs.Common.{ap, ap₂, sym, ◌∙◌, append-nil, arith, take_all, leb-true}
 use Rattle.laws.specs.Joined.{joined}
 use Rattle.laws.specs.Pick.{pick}
 use Rattle.lines.specs.Lines.{line_feed}

@@ -1,10 +1,7 @@
 -- What the outcome of a step is: how many bytes it takes, what it writes, and the reader after it.
 -- Assumes nothing.
-use mathlib.Core.Path.{◌≡◌, ap, ap₂, sym, ◌∙◌}
-use mathlib.Core.List.{List, [], ◌∷◌, ◌++◌, append-nil}
-use Prim.Native.Nat.{ℕ, ◌*◌, ◌≤◌}
-use native.Mathlib.Omega.{arith}
-use lib.ListN.{length, take, drop, length-append, length-drop}
+use Rattle.std.specs.Prelude.{◌≡◌, List, [], ◌∷◌, ◌++◌, ℕ, ◌*◌, ◌≤◌, length, take, drop}
+use Rattle.std.proofs.Common.{ap, ap₂, sym, ◌∙◌, append-nil, arith, length-append, length-drop}
 use lib.Seq.{take-append_seam}
 use Rattle.lines.specs.Lines.{line_feed}
 use Rattle.lines.specs.Reader.{kept_chars, reads, said, takes, closing}

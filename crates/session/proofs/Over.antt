@@ -1,12 +1,7 @@
 -- Once the key line is refused nothing more is said.
 -- Assumes nothing.
-use mathlib.Core.Path.{◌≡◌, refl, ap₂}
-use mathlib.Core.Bool.{Bool, true, false}
-use mathlib.Core.List.{List, [], ◌∷◌, ◌++◌}
-use Prim.Native.Nat.{ℕ, ◌≤◌}
-use native.Mathlib.Omega.{arith}
-use lib.Dec.{eqb}
-use borrow.Author.Tests.{ne_eqb}
+use Rattle.std.specs.Prelude.{◌≡◌, refl, Bool, true, false, List, [], ◌∷◌, ◌++◌, ℕ, ◌≤◌, eqb}
+use Rattle.std.proofs.Common.{ap₂, arith, ne_eqb}
 use Rattle.lines.specs.Lines.{line_feed}
 use Rattle.lines.specs.Reader.{Reader, next, reads, says, said}
 use Rattle.session.specs.Session.{Session, turn_of, tell_of}

@@ -1,13 +1,7 @@
 -- Wrong outcomes that the promises do not permit.
 -- Assumes nothing.
-use mathlib.Core.Path.{◌≡◌, ap, sym, ◌∙◌}
-use mathlib.Core.Bool.{true, false}
-use mathlib.Core.List.{List, [], ◌∷◌, append-nil}
-use Prim.Native.Nat.{ℕ, ◌≤◌, ◌<◌}
-use native.Mathlib.Omega.{arith}
-use lib.Dec.{eqb}
-use lib.ListN.{length, take}
-use borrow.Author.Tests.{leb-true, leb-false, eq-eqb, ne_eqb}
+use Rattle.std.specs.Prelude.{◌≡◌, true, false, List, [], ◌∷◌, ℕ, ◌≤◌, ◌<◌, eqb, length, take}
+use Rattle.std.proofs.Common.{ap, sym, ◌∙◌, append-nil, arith, leb-true, leb-false, eq-eqb, ne_eqb}
 use Rattle.keyline.specs.KeyLine.{key_line_answer}
 use Rattle.lines.specs.Lines.{line_feed, plain}
 use Rattle.lines.specs.Reader.{kept_chars, next, reads, said, closing}

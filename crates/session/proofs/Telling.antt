@@ -1,21 +1,20 @@
 -- What a line makes of a session and what is told at it, case by case; and that it is no longer than a text may be.
 -- Assumes nothing.
-use mathlib.Core.Path.{◌≡◌}
-use mathlib.Core.Bool.{Bool, true, false}
-use mathlib.Core.List.{List, [], ◌++◌}
-use Prim.Native.Nat.{ℕ, ◌+◌, ◌-◌, ◌≤◌}
-use native.Mathlib.Omega.{arith}
-use lib.Dec.{eqb}
-use lib.ListN.{length, take, drop}
-use borrow.Author.Tests.{eq-eqb, ne_eqb}
+use Rattle.std.specs.Prelude.{◌≡◌, refl, Result, Ok, Err, Bool, true, false, List, [], ◌++◌, ℕ, ◌+◌, ◌-◌, ◌≤◌, eqb, length, take, drop}
+use Rattle.std.proofs.Common.{length-take, length-drop, ap, sym, ◌∙◌, arith, eq-eqb, ne_eqb}
 use Rattle.laws.specs.Pick.{pick}
 use Rattle.keys.specs.declared.KeySet.{KeySet}
-use Rattle.keys.specs.declared.KeyAnswer.{KeyAnswer}
+use Rattle.numbers.specs.declared.Refusal.{Refusal}
+use Rattle.numbers.specs.Told.{number_of}
+use Rattle.numbers.proofs.Number.{not_done}
+use Rattle.keys.specs.declared.Made.{Made}
+use Rattle.keys.specs.Told.{KeyAnswer, no_set, told_keys}
 use Rattle.keyline.specs.KeyLine.{key_line_answer}
 use Rattle.frame.specs.declared.FrameAnswer.{FrameAnswer}
 use Rattle.frame.specs.Frame.{refused_frame}
 use Rattle.lines.specs.Moves.{Wrote}
-use Rattle.lines.proofs.Telling.{wrote_none, wrote_text}
+use Rattle.lines.specs.Tell.{TellsIn}
+use Rattle.lines.proofs.Telling.{wrote_none, wrote_front, front_wrote, tells_text, text_tells, wrote_text}
 use Rattle.answer.specs.Line.{line_answer}
 use Rattle.answer.specs.Text.{text_of}
 use Rattle.answer.specs.Promise.{TellPromise}
@@ -23,10 +22,9 @@ use Rattle.answer.proofs.Spelt.{text_length_is}
 use Rattle.outgoing.specs.Text.{sent_text}
 use Rattle.outgoing.specs.Promise as outgoing
 use Rattle.outgoing.proofs.Sent.{sent_most, text_length_is as sent-length}
-use Rattle.session.specs.declared.Told.{Told}
 use Rattle.session.specs.Output.{verdict_text, refusal_text, no_text}
-use Rattle.session.specs.Session.{Session, width, key_turn, key_tell, line_tell, refusal_tell, turn_of, tell_of}
 use Rattle.session.specs.Inner.{Tells}
+use Rattle.session.specs.Session.{Session, width, key_turn, key_tell, line_tell, refusal_tell, tell_of}
 
 -- how long a text may be: of the two kinds
 pub width_sends : (kind : ℕ) → kind ≡ 1 → 511 ≡ width kind
@@ -97,76 +95,59 @@ tell_most kind a line =
     (width kind) (key_most kind (key_line_answer line))
     (pick_most (eqb a.stage 1) (line_tell kind a.keys line) [] (width kind) (line_most kind a.keys line) (omega arith))
 
--- it is told in what is left of the space, which is lent for it
-module _ (kind : ℕ) (space : List ℕ) (out : ℕ) (room : out + width kind ≤ length space) where
-  abbrev lent : List ℕ
-  lent = take (length space - out) (drop out space)
+-- a text told in a space that has room for it stands at the front
+told_front : (most : ℕ) (text space : List ℕ) {n : ℕ} {after : List ℕ} → most ≤ length space → TellsIn most text space n after
+    → Wrote text space 0 n after
+told_front most text space room p =
+    let t = tells_text most text space room p in
+    wrote_front t.0 (t.1 ∙ ap (λ (k : ℕ). text ++ drop k space) (sym t.0))
 
-  abbrev back : List ℕ → List ℕ
-  back y = take out space ++ (y ++ drop (length space - out) (drop out space))
+-- one at the front of what is left of a space from a place on, which is lent for it, stands at that place
+pub wrote_behind : (text space : List ℕ) (out : ℕ) {n : ℕ} {x : List ℕ} → out + length text ≤ length space
+    → Wrote text (take (length space - out) (drop out space)) 0 n x
+    → Wrote text space out n (take out space ++ (x ++ drop (length space - out) (drop out space)))
+wrote_behind text space out room w =
+    let lent = take (length space - out) (drop out space) in
+    let most : length text ≤ length lent = omega (arith, length-take (length space - out) (drop out space), length-drop out space) in
+    wrote_text (length text) text space out room (text_tells (length text) text lent most w.size (front_wrote w))
 
+module _ (kind : ℕ) (space : List ℕ) (room : width kind ≤ length space) where
   -- the frame line of a body
-  pub wrote_sent : (keys : KeySet) (line : List ℕ) {n : ℕ} {x : List ℕ} → kind ≡ 1 → outgoing.TellPromise keys line lent n x
-      → Wrote (line_tell kind keys line) space out n (back x)
+  pub wrote_sent : (keys : KeySet) (line : List ℕ) {n : ℕ} {after : List ℕ} → kind ≡ 1 → outgoing.TellPromise keys line space n after
+      → Wrote (line_tell kind keys line) space 0 n after
   unfolding line_tell
-  wrote_sent keys line z p =
-      rw (eq-eqb kind 1 z) (wrote_text 511 (sent_text keys line) space out (omega (arith, width_sends kind z)) p)
+  wrote_sent keys line z p = rw (eq-eqb kind 1 z) (told_front 511 (sent_text keys line) space (omega (arith, width_sends kind z)) p)
 
   -- the verdict on a frame
-  pub wrote_verdict : (keys : KeySet) (line : List ℕ) {v : FrameAnswer} {n : ℕ} {x : List ℕ} → (kind ≡ 1 → ⊥)
-      → v ≡ line_answer keys line → TellPromise v lent n x → Wrote (line_tell kind keys line) space out n (back x)
+  pub wrote_verdict : (keys : KeySet) (line : List ℕ) {v : FrameAnswer} {n : ℕ} {after : List ℕ} → (kind ≡ 1 → ⊥)
+      → v ≡ line_answer keys line → TellPromise v space n after → Wrote (line_tell kind keys line) space 0 n after
   unfolding line_tell verdict_text
   wrote_verdict keys line {v} h e p =
-      rw (ne_eqb kind 1 h) (rw e at (wrote_text 21 (text_of v) space out (omega (arith, width_checks kind h)) p))
+      rw (ne_eqb kind 1 h) (rw e at (told_front 21 (text_of v) space (omega (arith, width_checks kind h)) p))
 
   -- a refusal
-  pub wrote_refusal : (number : ℕ) {v : FrameAnswer} {n : ℕ} {x : List ℕ} → (kind ≡ 1 → ⊥) → v ≡ refused_frame number
-      → TellPromise v lent n x → Wrote (refusal_tell kind number) space out n (back x)
+  pub wrote_refusal : (number : ℕ) {v : FrameAnswer} {n : ℕ} {after : List ℕ} → (kind ≡ 1 → ⊥) → v ≡ refused_frame number
+      → TellPromise v space n after → Wrote (refusal_tell kind number) space 0 n after
   unfolding refusal_tell refusal_text
   wrote_refusal number {v} h e p =
-      rw (ne_eqb kind 1 h) (rw e at (wrote_text 21 (text_of v) space out (omega (arith, width_checks kind h)) p))
+      rw (ne_eqb kind 1 h) (rw e at (told_front 21 (text_of v) space (omega (arith, width_checks kind h)) p))
 
 -- or nothing of it
-pub wrote_silent : (kind number : ℕ) (space : List ℕ) (out : ℕ) → kind ≡ 1 → Wrote (refusal_tell kind number) space out 0 space
+pub wrote_silent : (kind number : ℕ) (space : List ℕ) → kind ≡ 1 → Wrote (refusal_tell kind number) space 0 0 space
 unfolding refusal_tell no_text
-wrote_silent kind number space out z = rw (eq-eqb kind 1 z) (wrote_none space out)
+wrote_silent kind number space z = rw (eq-eqb kind 1 z) (wrote_none space 0)
 
 -- the key line: accepted, and refused
-module _ (kind : ℕ) (made : KeyAnswer) (space : List ℕ) (out : ℕ) where
-  pub keys_accepted : made.number ≡ 0
-      → Tells (key_turn made) (key_tell kind made) space out (record { stage = 1; keys = made.keys; written = 0 }) space
-  unfolding key_turn key_tell
-  keys_accepted z = record {
-    session = rw (eq-eqb made.number 0 z);
-    text = rw (eq-eqb made.number 0 z) (wrote_none space out);
-  }
+module _ (kind : ℕ) (space : List ℕ) {made : Result Made Refusal} where
+  pub keys_accepted : {m : Made} → made ≡ Ok m
+      → Tells (key_turn (told_keys made)) (key_tell kind (told_keys made)) space (record { stage = 1; keys = m.keys; written = 0 }) space
+  unfolding told_keys key_turn key_tell
+  keys_accepted e = rw e (record { session = refl; text = wrote_none space 0 })
 
-  pub keys_refused : {n : ℕ} {after : List ℕ} → (made.number ≡ 0 → ⊥) → Wrote (refusal_tell kind made.number) space out n after
-      → Tells (key_turn made) (key_tell kind made) space out (record { stage = 2; keys = made.keys; written = n }) after
-  unfolding key_turn key_tell
-  keys_refused h w = record { session = rw (ne_eqb made.number 0 h); text = rw (ne_eqb made.number 0 h) w }
-
-module _ (kind : ℕ) (a : Session) (line space : List ℕ) (out : ℕ) where
-  -- the key line is awaited
-  pub tells_keys : {made : KeyAnswer} {r : Told} {after : List ℕ} → a.stage ≡ 0 → made ≡ key_line_answer line
-      → Tells (key_turn made) (key_tell kind made) space out r after → Tells (turn_of a line) (tell_of kind a line) space out r after
-  unfolding turn_of tell_of
-  tells_keys z e t = rw (eq-eqb a.stage 0 z) (rw e at t)
-
-  -- other lines are
-  pub tells_line : {n : ℕ} {after : List ℕ} → (a.stage ≡ 0 → ⊥) → a.stage ≡ 1 → Wrote (line_tell kind a.keys line) space out n after
-      → Tells (turn_of a line) (tell_of kind a line) space out (record { stage = a.stage; keys = a.keys; written = n }) after
-  unfolding turn_of tell_of
-  tells_line h z w = record {
-    session = rw (ne_eqb a.stage 0 h);
-    text = rw (ne_eqb a.stage 0 h, eq-eqb a.stage 1 z) w;
-  }
-
-  -- it is over
-  pub tells_nothing : (a.stage ≡ 0 → ⊥) → (a.stage ≡ 1 → ⊥)
-      → Tells (turn_of a line) (tell_of kind a line) space out (record { stage = a.stage; keys = a.keys; written = 0 }) space
-  unfolding turn_of tell_of
-  tells_nothing h g = record {
-    session = rw (ne_eqb a.stage 0 h);
-    text = rw (ne_eqb a.stage 0 h, ne_eqb a.stage 1 g) (wrote_none space out);
-  }
+  pub keys_refused : {why : Refusal} {k : KeySet} {n : ℕ} {after : List ℕ} → made ≡ Err why → k ≡ no_set
+      → Wrote (refusal_tell kind (number_of why)) space 0 n after
+      → Tells (key_turn (told_keys made)) (key_tell kind (told_keys made)) space (record { stage = 2; keys = k; written = n }) after
+  unfolding told_keys key_turn key_tell
+  keys_refused {why} e none w =
+      let some = ne_eqb (number_of why) 0 (not_done why) in
+      rw (e, none) (record { session = rw some; text = rw some w })

@@ -1,15 +1,7 @@
 -- One turn of the step: a part that ends before the line does, a line that is answered, and lines that are read where they lie.
 -- Assumes nothing.
-use mathlib.Core.Path.{◌≡◌, refl, ap, ap₂, sym, ◌∙◌}
-use mathlib.Core.Bool.{Bool, true}
-use mathlib.Core.List.{List, [], ◌++◌}
-use Prim.Native.Nat.{ℕ, ◌+◌, ◌-◌, ◌≤◌, ◌<◌}
-use native.Mathlib.Omega.{arith}
-use lib.Dec.{leb, ltb}
-use lib.ListN.{length, take, drop}
-use borrow.Author.Tests.{ltb-true, leb-true}
-use Rattle.laws.specs.Agree.{both}
-use Rattle.laws.proofs.Both.{both_holds}
+use Rattle.std.specs.Prelude.{◌≡◌, refl, List, [], ◌++◌, ℕ, ◌+◌, ◌-◌, ◌≤◌, ◌<◌, length, take, drop}
+use Rattle.std.proofs.Common.{ap, ◌∙◌, arith, ap₂}
 use Rattle.keys.specs.declared.KeySet.{KeySet}
 use Rattle.lines.specs.declared.Gathered.{Gathered}
 use Rattle.lines.specs.Reader.{kept_chars, kept_line, Reader}
@@ -20,21 +12,12 @@ use Rattle.lines.proofs.Reader.{kept_most}
 use Rattle.lines.proofs.Moving.{line_within, moves_none, moves_as, moves_on, moves_part, moves_line}
 use Rattle.session.specs.declared.State.{State}
 use Rattle.session.specs.declared.Told.{Told}
-use Rattle.session.specs.declared.Turn.{Turn}
-use Rattle.session.specs.declared.Span.{Span}
+use Rattle.session.specs.declared.Stepped.{Stepped}
 use Rattle.session.specs.Session.{Session, width, session_of, line_tell, turn_of, tell_of, reader_of, state_of}
-use Rattle.session.specs.Inner.{TellsLine, Tidy, Passes, Ready, Turned, Within, between, Spans, Passed}
+use Rattle.session.specs.Inner.{TellsLine, Tidy, Passes, Ready, Turned, Within, between, Passed}
 use Rattle.session.proofs.States.{state_kept, state_between, made_reader, made_kind, made_tidy}
-use Rattle.session.proofs.Telling.{line_most, tell_most}
+use Rattle.session.proofs.Telling.{line_most, tell_most, wrote_behind}
 use Rattle.session.proofs.Whole.{tell_kept}
-
--- what the loops' test tells: there is more to take, and room for another text
-pub goes_told : (at end most out room : ℕ) {b : Bool} → b ≡ both (ltb at end) (leb most (room - out)) → b ≡ true → 1 ≤ most
-    → (at < end) × (out + most ≤ room)
-goes_told at end most out room e h some =
-    let f = both_holds (ltb at end) (leb most (room - out)) (sym e ∙ h) in
-    let k = leb-true most (room - out) f.1 in
-    (ltb-true at end f.0, omega arith)
 
 -- what was gathered lies within its array
 pub gathered_within : (line : List ℕ) (count : ℕ) (more : List ℕ) {g : Gathered} → g ≡ gathered line count more
@@ -47,18 +30,28 @@ gathered_within line count more {g} e =
     omega (arith, n, m, kept_most (take count line ++ more))
 
 -- what was told has room
-pub told_within : (kind : ℕ) (a : Session) (line space : List ℕ) (out : ℕ) {t : Told} {after : List ℕ}
-    → TellsLine kind a line space out t after → out + width kind ≤ length space → out + t.written ≤ length space
+pub told_within : (kind : ℕ) (a : Session) (line space : List ℕ) (out : ℕ) {lent : List ℕ} {t : Told} {after : List ℕ}
+    → TellsLine kind a line lent t after → out + width kind ≤ length space → out + t.written ≤ length space
 told_within kind a line space out tells room = omega (arith, tells.text.size, tell_most kind a line)
 
-pub line_told_within : (kind : ℕ) (keys : KeySet) (line space : List ℕ) (out : ℕ) {n : ℕ} {after : List ℕ}
-    → Wrote (line_tell kind keys line) space out n after → out + width kind ≤ length space → out + n ≤ length space
+pub line_told_within : (kind : ℕ) (keys : KeySet) (line space : List ℕ) (out : ℕ) {lent : List ℕ} {n : ℕ} {after : List ℕ}
+    → Wrote (line_tell kind keys line) lent 0 n after → out + width kind ≤ length space → out + n ≤ length space
 line_told_within kind keys line space out w room = omega (arith, w.size, line_most kind keys line)
 
-module _ (s : State) (part : List ℕ) (at : ℕ) (space : List ℕ) (out : ℕ) where
+module _ (u : Stepped) (part space : List ℕ) where
+  -- the state that the turn begins with, and how much was taken and written before
+  abbrev s : State
+  s = u.state
+
+  abbrev at : ℕ
+  at = u.taken
+
+  abbrev out : ℕ
+  out = u.written
+
   -- a turn, by the reader that its state is made of
-  turned_by : (r : Turn) {after : List ℕ} (t : Reader Session) → length t.line ≤ kept_chars → r.state ≡ state_of s.kind t
-      → at < r.at → Passes s.kind part (reader_of s) at out space t r.at r.out after → Turned s part at space out r after
+  turned_by : (r : Stepped) {after : List ℕ} (t : Reader Session) → length t.line ≤ kept_chars → r.state ≡ state_of s.kind t
+      → at < r.taken → Passes s.kind part (reader_of s) at out space t r.taken r.written after → Turned u part space r after
   turned_by r t h e some m = record {
     kind = made_kind s.kind t h e;
     tidy = made_tidy s.kind t h e;
@@ -69,7 +62,7 @@ module _ (s : State) (part : List ℕ) (at : ℕ) (space : List ℕ) (out : ℕ)
   module _
       {end : ℕ}
       {g : Gathered}
-      (ready : Ready s part at space out)
+      (ready : Ready u part space)
       (stop : end ≡ line_end part at)
       (eg : g ≡ gathered s.line s.count (take (end - at) (drop at part)))
     where
@@ -85,11 +78,11 @@ module _ (s : State) (part : List ℕ) (at : ℕ) (space : List ℕ) (out : ℕ)
 
       -- the part ends before the line does
       pub turned_part : length part ≤ end
-          → Turned s part at space out
+          → Turned u part space
           (record {
             state = record { kind = s.kind; stage = s.stage; keys = s.keys; line = g.line; count = g.count };
-            at = end;
-            out = out;
+            taken = end;
+            written = out;
           })
           space
       unfolding gathered reader_of state_of
@@ -98,7 +91,7 @@ module _ (s : State) (part : List ℕ) (at : ℕ) (space : List ℕ) (out : ℕ)
           let state : State = record { kind = s.kind; stage = s.stage; keys = s.keys; line = g.line; count = g.count } in
           let e : state ≡ state_of s.kind t =
           λ i. record { kind = s.kind; stage = s.stage; keys = s.keys; line = (eg i).line; count = (eg i).count } in
-          turned_by (record { state = state; at = end; out = out }) t
+          turned_by (record { state = state; taken = end; written = out }) t
           (kept_most (take s.count s.line ++ take (end - at) (drop at part))) e (omega (arith, ready.more))
           (moves_part turn_of (tell_of s.kind) (width s.kind) part (reader_of s) at out space kept ready.room stop most past)
 
@@ -109,30 +102,26 @@ module _ (s : State) (part : List ℕ) (at : ℕ) (space : List ℕ) (out : ℕ)
           ap₂ (λ (k : ℕ) (x : List ℕ). take k x) (ap (λ (x : Gathered). x.count) eg) (ap (λ (x : Gathered). x.line) eg)
           ∙ laid_front line (kept_most (take s.count s.line ++ take (end - at) (drop at part)))
 
-      -- it is answered
-      pub turned_line : {t : Told} {state : State} {after : List ℕ} → end < length part
-          → TellsLine s.kind (session_of s.stage s.keys) (take g.count g.line) space out t after
+      -- it is answered, in what is left of the space
+      pub turned_line : {t : Told} {state : State} {x : List ℕ} → end < length part
+          → TellsLine s.kind (session_of s.stage s.keys) (take g.count g.line) (take (length space - out) (drop out space)) t x
           → state ≡ state_of s.kind (record { session = session_of t.stage t.keys; line = [] })
-          → Turned s part at space out (record { state = state; at = end + 1; out = out + t.written }) after
+          → Turned u part space (record { state = state; taken = end + 1; written = out + t.written })
+          (take out space ++ (x ++ drop (length space - out) (drop out space)))
       unfolding reader_of
-      turned_line {t} {state} {after} within tells es =
+      turned_line {t} {state} within tells es =
           let a = session_of s.stage s.keys in
-          let w : Wrote (tell_of s.kind a line) space out t.written after = (rw gathered_line at tells).text in
+          let told = rw gathered_line at tells in
+          let room : out + length (tell_of s.kind a line) ≤ length space = omega (arith, ready.room, tell_most s.kind a line) in
+          let w = wrote_behind (tell_of s.kind a line) space out room told.text in
           let behind : Reader Session = record { session = turn_of a line; line = [] } in
-          let turned : session_of t.stage t.keys ≡ turn_of a line = tells.session ∙ ap (turn_of a) gathered_line in
           let h = (line_within part at stop most).0 in
-          turned_by (record { state = state; at = end + 1; out = out + t.written }) behind (omega arith)
-          (es ∙ ap (λ (x : Session). state_of s.kind (record { session = x; line = [] })) turned) (omega (arith, h))
+          turned_by (record { state = state; taken = end + 1; written = out + t.written }) behind (omega arith)
+          (es ∙ ap (λ (x : Session). state_of s.kind (record { session = x; line = [] })) told.session) (omega (arith, h))
           (moves_line turn_of (tell_of s.kind) (width s.kind) part (reader_of s) at out space kept ready.room stop within w
           (omega (arith, w.size, tell_most s.kind a line)) h)
 
--- lines that are read where they lie: none yet
-pub spans_none : (kind : ℕ) (keys : KeySet) (part : List ℕ) (at : ℕ) (space : List ℕ) (out : ℕ) → Within part at space out
-    → Passes kind part (between keys) at out space (between keys) at out space
-spans_none kind keys part at space out w =
-    moves_none turn_of (tell_of kind) (width kind) part (between keys) at out space w.most w.room
-
--- and one more
+-- lines that are read where they lie: one more
 module _
     (kind : ℕ)
     (keys : KeySet)
@@ -141,40 +130,49 @@ module _
     {space now : List ℕ}
     (m : Passes kind part (between keys) at out space (between keys) i o now)
   where
-    pub spans_line : {end n : ℕ} {after : List ℕ} → o + width kind ≤ length now → end ≡ line_end part i → end < length part
-        → Wrote (line_tell kind keys (take (end - i) (drop i part))) now o n after
-        → Passes kind part (between keys) at out space (between keys) (end + 1) (o + n) after
+    pub passes_line : {end n : ℕ} {x : List ℕ} → o + width kind ≤ length now → end ≡ line_end part i → end < length part
+        → Wrote (line_tell kind keys (take (end - i) (drop i part))) (take (length now - o) (drop o now)) 0 n x
+        → Passes kind part (between keys) at out space (between keys) (end + 1) (o + n)
+        (take o now ++ (x ++ drop (length now - o) (drop o now)))
     unfolding turn_of tell_of
-    spans_line {end} {n} {after} room stop within w =
+    passes_line {end} {n} {x} room stop within w =
         let a = session_of 1 keys in
         let lent = take (end - i) (drop i part) in
-        let w' : Wrote (tell_of kind a (kept_line lent)) now o n after = rw (tell_kept kind a lent) w in
+        let text = tell_of kind a (kept_line lent) in
+        let fits : o + length text ≤ length now = omega (arith, room, tell_most kind a (kept_line lent)) in
+        let w' = wrote_behind text now o {n = n} {x = x} fits (rw (tell_kept kind a lent) w) in
         let h = (line_within part i stop m.most).0 in
         moves_on turn_of (tell_of kind) (width kind) part m
         (moves_line turn_of (tell_of kind) (width kind) part (between keys) i o now (omega arith) room stop within w'
         (omega (arith, w'.size, tell_most kind a (kept_line lent))) h)
 
--- a turn that is not gone on with
-pub passed_none : (t : Turn) (part space : List ℕ) → Tidy t.state → Within part t.at space t.out → Passed t part space t space
-passed_none t part space d w =
-    let k = t.state.kind in
-    record {
-      same = refl;
-      tidy = d;
-      forth = omega arith;
-      moves = moves_none turn_of (tell_of k) (width k) part (reader_of t.state) t.at t.out space w.most w.room;
-    }
+module _ (t : Stepped) (part space : List ℕ) (d : Tidy t.state) where
+  -- the kind of the program
+  abbrev k : ℕ
+  k = t.state.kind
 
--- and one that is, by lines that lie whole in the part
-pub passed_lines : (t : Turn) (part space : List ℕ) {w : Span} {after : List ℕ} → Tidy t.state → t.state.stage ≡ 1
-    → t.state.count ≡ 0 → Spans t.state.kind t.state.keys part t.at space t.out w after
-    → Passed t part space (record { state = t.state; at = w.at; out = w.out }) after
-passed_lines t part space d e z m =
-    let k = t.state.kind in
-    let b = state_between t.state e z in
-    record {
-      same = refl;
-      tidy = d;
-      forth = omega (arith, m.at_is);
-      moves = moves_as turn_of (tell_of k) (width k) part b b m;
-    }
+  -- a turn that is not gone on with
+  pub passed_none : Within t part space → Passed t part space t space
+  passed_none w = record {
+    same = refl;
+    tidy = d;
+    forth = omega arith;
+    moves = moves_none turn_of (tell_of k) (width k) part (reader_of t.state) t.taken t.written space w.most w.room;
+  }
+
+  -- and one that is, by lines that lie whole in the part: none yet, and some
+  pub passes_none : Within t part space
+      → Passes k part (between t.state.keys) t.taken t.written space (between t.state.keys) t.taken t.written space
+  passes_none w = moves_none turn_of (tell_of k) (width k) part (between t.state.keys) t.taken t.written space w.most w.room
+
+  pub passed_lines : {at out : ℕ} {after : List ℕ} → t.state.stage ≡ 1 → t.state.count ≡ 0
+      → Passes k part (between t.state.keys) t.taken t.written space (between t.state.keys) at out after
+      → Passed t part space (record { state = t.state; taken = at; written = out }) after
+  passed_lines e z m =
+      let b = state_between t.state e z in
+      record {
+        same = refl;
+        tidy = d;
+        forth = omega (arith, m.at_is);
+        moves = moves_as turn_of (tell_of k) (width k) part b b m;
+      }

@@ -1,20 +1,13 @@
 -- Line by line, and what was said from the start, is the program's output for the whole input.
 -- Assumes nothing.
-use mathlib.Core.Path.{◌≡◌, refl, ap, sym, ◌∙◌}
-use mathlib.Core.Bool.{Bool, true, false}
-use mathlib.Core.Logic.{⊎_elim}
-use mathlib.Core.List.{List, [], ◌∷◌, ◌++◌, append-nil}
-use Prim.Native.Nat.{ℕ, ◌<◌}
-use native.Mathlib.Omega.{arith}
-use lib.Dec.{eqb}
-use lib.ListN.{length}
-use lib.Seq.{take_all, length-take-le}
-use borrow.Author.Tests.{ne_eqb}
+use Rattle.std.specs.Prelude.{Err, ◌≡◌, refl, Bool, true, false, List, [], ◌∷◌, ◌++◌, ℕ, ◌<◌, eqb, length}
+use Rattle.std.proofs.Common.{ap, sym, ◌∙◌, ⊎_elim, append-nil, arith, take_all, length-take-le, ne_eqb}
 use Rattle.laws.specs.Pick.{pick}
 use Rattle.laws.proofs.Cases.{below_or_not}
 use Rattle.keys.specs.declared.KeySet.{KeySet}
-use Rattle.keys.specs.declared.KeyAnswer.{KeyAnswer}
-use Rattle.keys.specs.Answer.{refused_keys}
+use Rattle.numbers.specs.declared.Refusal.TheVariants.{BadLength}
+use Rattle.numbers.specs.Told.{number_of}
+use Rattle.keys.specs.Told.{KeyAnswer, told_keys}
 use Rattle.keyline.specs.KeyLine.{key_line_answer}
 use Rattle.keyline.proofs.Answered.{number_length as key-length, read_refused}
 use Rattle.hex_line.proofs.Outcome.{number_length as line_length}
@@ -37,9 +30,8 @@ alike f z h l =
     (below_or_not (length l) kept_chars)
 
 key_kept : (l : List ℕ) → key_line_answer (kept_line l) ≡ key_line_answer l
-key_kept =
-    alike key_line_answer (refused_keys 8)
-    (λ l b. sym (read_refused l (key-length l (λ z. omega arith)) (λ z. omega arith) refl))
+unfolding number_of
+key_kept = alike key_line_answer (told_keys (Err BadLength)) (λ l b. sym (read_refused l BadLength (key-length l (λ z. omega arith))))
 
 line_kept : (k : KeySet) (l : List ℕ) → line_answer k (kept_line l) ≡ line_answer k l
 line_kept k =

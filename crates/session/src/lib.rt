@@ -9,21 +9,24 @@
 //     let e = session::finish(a.state, &mut space);    // a last line may lack its line feed
 #![tactic(auto)]
 
-ghost use Rattle.std.specs.Prelude.{◌≡◌, [], eqb, leb, ltb, length, ◌+◌, ◌-◌, ◌≤◌};
-ghost use Rattle.laws.specs.Agree.{both};
-ghost use Rattle.laws.specs.Pick.{pick};
-ghost use Rattle.session.specs.Session.{width, key_turn, key_tell, line_tell, refusal_tell, session_of, reader_of, state_of};
+ghost use Rattle.std.specs.Prelude.{◌≡◌, [], length, ◌≤◌};
 ghost use Rattle.lines.specs.Moves.{Wrote};
-ghost use Rattle.session.specs.Inner.{Tells, TellsLine, Ready, Turned, Tidy, Within, Spans, Passed};
+ghost use Rattle.numbers.specs.Told.{number_of};
+ghost use Rattle.keys.specs.Told.{told_keys};
+ghost use Rattle.session.specs.Session.{width, key_turn, key_tell, line_tell, refusal_tell, session_of, reader_of, state_of};
+ghost use Rattle.session.specs.Inner.{Tells, TellsLine, Ready, Turned, Tidy, Within, Passed};
 ghost use Rattle.session.specs.Promise.{WidthPromise, BeginPromise, IsOverPromise, StepPromise, FinishPromise};
 
 use answer::ANSWER;
-use keys::{KeyAnswer, KeySet};
+use frame::Judged;
+use keys::{KeySet, Made};
 use lines::{KEPT, LINE_FEED};
-use numbers::DONE;
+use numbers::Refusal;
 use outgoing::MOST_TEXT;
 
-// The kinds of a program: one that checks, which every number but the other's is, and one that sends.
+// The kinds of a program: one that checks, which every number but the other's is, and one that sends. A kind
+// and a stage are numbers and no enums: `State` is public, and `begin`, `width` and `step` answer every one
+// (`check_in_parts` speaks of each kind).
 pub const CHECK: u8 = 0;
 
 pub const SEND: u8 = 1;
@@ -63,22 +66,8 @@ struct Told {
     written: usize,
 }
 
-// The state so far, and how many bytes were taken and written for it.
-#[derive(Clone, Copy)]
-struct Turn {
-    state: State,
-    at: usize,
-    out: usize,
-}
-
-// How many bytes were taken and written so far.
-#[derive(Clone, Copy)]
-struct Span {
-    at: usize,
-    out: usize,
-}
-
 // How long the text at a line may be in a program of a kind.
+#[tactic(auto, unfolding(crate::specs::Session::width))]
 pub fn width(kind: u8) -> usize
     ensures { WidthPromise kind result }
 {
@@ -86,110 +75,97 @@ pub fn width(kind: u8) -> usize
 }
 
 // The state of a program of a kind at the start: the key line is awaited.
+#[tactic(auto, unfolding(crate::specs::Session::begun))]
 pub fn begin(kind: u8) -> State
     ensures { BeginPromise kind result }
 {
-    let none = keys::refused(DONE);
-    let keys = none.keys;
-    State {
-        kind,
+    let awaited = Told {
         stage: AWAITS_KEYS,
-        keys,
-        line: [0; KEPT],
-        count: 0,
-    }
+        keys: keys::no_set(),
+        written: 0,
+    };
+    fresh(kind, awaited)
 }
 
 // Whether the key line was refused: nothing more is answered.
+#[tactic(auto, unfolding(crate::specs::Session::over))]
 pub fn is_over(s: State) -> bool
     ensures { IsOverPromise s result }
 {
     s.stage >= OVER
 }
 
-// Tells the text at a line behind the key line, in the space from a place on: how long it is.
-fn tell<'a>(kind: u8, keys: KeySet, line: &'a [u8], space: &'a mut [u8], out: usize) -> usize
-    requires { out + width kind ≤ length space.old }
-    ensures { Wrote (line_tell kind keys line.now) space.old out result space.new }
+// Tells the text at a line behind the key line, at the front of a space: how long it is.
+fn tell(kind: u8, keys: KeySet, line: &[u8], space: &mut [u8]) -> usize
+    requires { width kind ≤ length space.old }
+    ensures { Wrote (line_tell kind keys line.now) space.old 0 result space.new }
 {
     if kind == SEND {
-        return outgoing::tell(keys, line, &mut space[out..]);
+        return outgoing::tell(keys, line, space);
     }
-    answer::tell(answer::of_line(keys, line), &mut space[out..])
+    answer::tell(answer::of_line(keys, line).into(), space)
 }
 
-// Tells that a key line is refused, in the space from a place on: how long that is. One that sends says
-// nothing of it.
-fn refusal_told(kind: u8, number: u8, space: &mut [u8], out: usize) -> usize
-    requires { out + width kind ≤ length space.old }
-    ensures { Wrote (refusal_tell kind number) space.old out result space.new }
+// Tells that a key line is refused, at the front of a space: how long that is. One that sends says nothing of it.
+fn refusal_told(kind: u8, why: Refusal, space: &mut [u8]) -> usize
+    requires { width kind ≤ length space.old }
+    ensures { Wrote (refusal_tell kind (number_of why)) space.old 0 result space.new }
 {
     if kind == SEND {
         return 0;
     }
-    answer::tell(frame::refused(number), &mut space[out..])
+    answer::tell(Judged::from(why).into(), space)
 }
 
 // After the key line: where it is refused, what the program tells of that.
-fn keys_told(kind: u8, made: KeyAnswer, space: &mut [u8], out: usize) -> Told
-    requires { out + width kind ≤ length space.old }
-    ensures { Tells (key_turn made) (key_tell kind made) space.old out result space.new }
+fn keys_told(kind: u8, made: Result<Made, Refusal>, space: &mut [u8]) -> Told
+    requires { width kind ≤ length space.old }
+    ensures { Tells (key_turn (told_keys made)) (key_tell kind (told_keys made)) space.old result space.new }
 {
-    let keys = made.keys;
-    if made.number == DONE {
-        return Told {
+    match made {
+        Ok(made) => Told {
             stage: HAS_KEYS,
-            keys,
+            keys: made.keys,
             written: 0,
-        };
-    }
-    let written = refusal_told(kind, made.number, space, out);
-    Told {
-        stage: OVER,
-        keys,
-        written,
+        },
+        Err(why) => Told {
+            stage: OVER,
+            keys: keys::no_set(),
+            written: refusal_told(kind, why, space),
+        },
     }
 }
 
 // After a line.
-fn line_told<'a>(
-    kind: u8,
-    stage: u8,
-    keys: KeySet,
-    line: &'a [u8],
-    space: &'a mut [u8],
-    out: usize,
-) -> Told
-    requires { out + width kind ≤ length space.old }
-    ensures { TellsLine kind (session_of stage keys) line.now space.old out result space.new }
+#[tactic(auto, using(lines::proofs::Telling::wrote_none), unfolding(crate::specs::Session::turn_of, crate::specs::Session::tell_of))]
+fn line_told(s: State, line: &[u8], space: &mut [u8]) -> Told
+    requires { width s.kind ≤ length space.old }
+    ensures { TellsLine s.kind (session_of s.stage s.keys) line.now space.old result space.new }
 {
-    if stage == AWAITS_KEYS {
-        return keys_told(kind, keyline::read(line), space, out);
-    }
-    if stage == HAS_KEYS {
-        let written = tell(kind, keys, line, space, out);
-        return Told {
-            stage,
-            keys,
-            written,
-        };
-    }
-    Told {
-        stage,
-        keys,
-        written: 0,
+    match s.stage {
+        AWAITS_KEYS => keys_told(s.kind, keyline::read(line), space),
+        HAS_KEYS => Told {
+            stage: s.stage,
+            keys: s.keys,
+            written: tell(s.kind, s.keys, line, space),
+        },
+        _ => Told {
+            stage: s.stage,
+            keys: s.keys,
+            written: 0,
+        },
     }
 }
 
 // The state behind a line: none is begun.
+#[tactic(auto, unfolding(crate::specs::Session::state_of, lines::specs::Gather::laid))]
 fn fresh(kind: u8, t: Told) -> State
     ensures { result ≡ state_of kind (record { session = session_of t.stage t.keys; line = [] }) }
 {
-    let keys = t.keys;
     State {
         kind,
         stage: t.stage,
-        keys,
+        keys: t.keys,
         line: [0; KEPT],
         count: 0,
     }
@@ -197,156 +173,99 @@ fn fresh(kind: u8, t: Told) -> State
 
 // One line more, or what the part has of it: its characters are gathered, and where its line feed is
 // there too, it is answered.
-fn take_turn<'a>(s: State, part: &'a [u8], at: usize, space: &'a mut [u8], out: usize) -> Turn
-    requires { Ready s part.now at space.old out }
-    ensures { Turned s part.now at space.old out result space.new }
+#[tactic(auto, using(crate::proofs::Turning::gathered_within))]
+fn take_turn(t: Stepped, part: &[u8], space: &mut [u8]) -> Stepped
+    requires { Ready t part.now space.old }
+    ensures { Turned t part.now space.old result space.new }
 {
-    let before = s.line;
-    let keys = s.keys;
-    let end = lines::find(part, at);
-    let g = lines::gather(before, s.count, &part[at..end]);
-    let line = g.line;
-    let count = g.count;
+    let s = t.state;
+    let end = lines::find(part, t.taken);
+    let g = lines::gather(s.line, s.count, &part[t.taken..end]);
     if end >= part.len() {
-        let state = State {
-            kind: s.kind,
-            stage: s.stage,
-            keys,
-            line,
-            count,
-        };
-        return Turn {
-            state,
-            at: end,
-            out,
+        return Stepped {
+            state: State {
+                line: g.line,
+                count: g.count,
+                ..s
+            },
+            taken: end,
+            written: t.written,
         };
     }
-    let t = line_told(s.kind, s.stage, keys, &line[..count], space, out);
-    let state = fresh(s.kind, t);
-    Turn {
-        state,
-        at: end + 1,
-        out: out + t.written,
+    let told = line_told(s, &g.line[..g.count], &mut space[t.written..]);
+    Stepped {
+        state: fresh(s.kind, told),
+        taken: end + 1,
+        written: t.written + told.written,
     }
 }
 
-// Whether there is more to take, and room for another text of so many bytes.
-fn goes(at: usize, end: usize, most: usize, out: usize, room: usize) -> bool
-    requires { 1 ≤ most }
-    ensures { result ≡ both (ltb at end) (leb most (room - out)) }
-{
-    if at >= end {
-        return false;
-    }
-    if out >= room {
-        return false;
-    }
-    room - out >= most
-}
-
-// The lines that lie whole in a part, from the start of one on, each read where it lies: the keys stay
-// where they are, and no state is made for a line.
-fn whole_lines<'a>(
-    kind: u8,
-    keys: KeySet,
-    part: &'a [u8],
-    at: usize,
-    space: &'a mut [u8],
-    out: usize,
-) -> Span
-    requires { Within part.now at space.old out }
-    ensures { Spans kind keys part.now at space.old out result space.new }
-{
-    let most = width(kind);
-    let mut i = at;
-    let mut o = out;
-    while goes(i, part.len(), most, o, space.len()) {
-        let stop = lines::find(part, i);
-        if stop >= part.len() {
-            return Span { at: i, out: o };
-        }
-        o += tell(kind, keys, &part[i..stop], space, o);
-        i = stop + 1;
-    }
-    Span { at: i, out: o }
-}
-
-// Where the key line has come and no line is begun, the lines that lie whole in the part.
-fn pass_whole<'a>(t: Turn, part: &'a [u8], space: &'a mut [u8]) -> Turn
-    requires { Tidy t.state × Within part.now t.at space.old t.out }
+// Where the key line has come and no line is begun, the lines that lie whole in the part, each read where it
+// lies: the keys stay where they are, and no state is made for a line.
+fn pass_whole(t: Stepped, part: &[u8], space: &mut [u8]) -> Stepped
+    requires { Tidy t.state × Within t part.now space.old }
     ensures { Passed t part.now space.old result space.new }
 {
     let s = t.state;
-    if s.stage != HAS_KEYS {
-        return t;
-    }
-    if s.count != 0 {
+    if s.stage != HAS_KEYS || s.count != 0 {
         return t;
     }
     let keys = s.keys;
-    let w = whole_lines(s.kind, keys, part, t.at, space, t.out);
-    Turn {
+    let most = width(s.kind);
+    let mut at = t.taken;
+    let mut out = t.written;
+    while at < part.len() && space.len() - out >= most {
+        let stop = lines::find(part, at);
+        if stop >= part.len() {
+            break;
+        }
+        out += tell(s.kind, keys, &part[at..stop], &mut space[out..]);
+        at = stop + 1;
+    }
+    Stepped {
         state: s,
-        at: w.at,
-        out: w.out,
+        taken: at,
+        written: out,
     }
 }
 
 // The state with nothing behind the characters of its line.
+#[tactic(auto, unfolding(crate::specs::Session::state_of, crate::specs::Session::reader_of))]
 fn tidied(s: State) -> State
     ensures { result ≡ state_of s.kind (reader_of s) }
 {
-    let line = s.line;
-    let keys = s.keys;
     State {
-        kind: s.kind,
-        stage: s.stage,
-        keys,
-        line: lines::tidy(line, s.count),
+        line: lines::tidy(s.line, s.count),
         count: lines::held(s.count),
+        ..s
     }
 }
 
 // Takes as much of a part as the space has room for the texts at; with a space under the width, nothing. A
 // line that lies whole in the part is read where it lies; one that goes on behind it, or that was begun
 // before it, is gathered, and so is the key line.
-pub fn step<'a>(s: State, part: &'a [u8], space: &'a mut [u8]) -> Stepped
+pub fn step(s: State, part: &[u8], space: &mut [u8]) -> Stepped
     ensures { StepPromise s part.now space.old result space.new }
 {
     let most = width(s.kind);
-    let start = Turn {
+    let start = Stepped {
         state: tidied(s),
-        at: 0,
-        out: 0,
+        taken: 0,
+        written: 0,
     };
     let mut t = pass_whole(start, part, space);
-    while goes(t.at, part.len(), most, t.out, space.len()) {
-        let before = t.state;
-        let gathered = take_turn(before, part, t.at, space, t.out);
-        let next = pass_whole(gathered, part, space);
-        t = next;
+    while t.taken < part.len() && space.len() - t.written >= most {
+        t = pass_whole(take_turn(t, part, space), part, space);
     }
-    let state = t.state;
-    Stepped {
-        state,
-        taken: t.at,
-        written: t.out,
-    }
-}
-
-// How many line feeds a line of so many characters lacks at the end of the input: none where no line is
-// begun.
-fn lacking(count: usize) -> usize
-    ensures { result ≡ pick (eqb count 0) 0 1 }
-{
-    if count == 0 { 0 } else { 1 }
+    t
 }
 
 // The end of the input: a last line may lack its line feed. It wants a space of the width, as step does.
 pub fn finish(s: State, space: &mut [u8]) -> Stepped
     ensures { FinishPromise s space.old result space.new }
 {
-    let feed = [LINE_FEED];
-    let end = lacking(s.count);
-    step(s, &feed[..end], space)
+    if s.count == 0 {
+        return step(s, &[], space);
+    }
+    step(s, &[LINE_FEED], space)
 }

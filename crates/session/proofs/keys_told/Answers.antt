@@ -1,10 +1,10 @@
--- `session::keys_told` meets its contract. By the key line's number.
+-- `session::keys_told` meets its contract. By whether the key line was refused.
 -- Assumes nothing.
 use Rattle.session.proofs.Telling.{keys_accepted, keys_refused}
 use Rattle.session.proofs.keys_told.Goals as goal
 
-pub returns-then-made-eq-DONE : goal.returns-then-made-eq-DONE
-returns-then-made-eq-DONE c = keys_accepted _ _ _ _ c.if-made-eq-DONE.true
+pub returns-in-Ok : goal.returns-in-Ok
+returns-in-Ok c = keys_accepted _ _ c.in-Ok.is
 
-pub returns : goal.returns
-returns c = keys_refused _ _ _ _ c.if-made-eq-DONE.false c.refusal_told-written.ensures
+pub returns-in-Err : goal.returns-in-Err
+returns-in-Err c = keys_refused _ _ c.in-Err.is c.no_set.ensures c.refusal_told.ensures
