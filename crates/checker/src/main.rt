@@ -5,6 +5,8 @@
 
 use program::Streams;
 
+// The streams are taken here, in either program: a function of `program` that took them of a runtime would be a public
+// promise more, for four lines.
 fn main(rt: HostRuntime) {
     let streams = Streams {
         input: rt.stdin(),

@@ -1,11 +1,7 @@
 -- A part answered step by step: what a step moves on, from the start to the end of the part.
 -- Assumes nothing.
-use mathlib.Core.Path.{◌≡◌, refl, ap, sym, ◌∙◌}
-use mathlib.Core.List.{List}
-use Prim.Native.Nat.{ℕ, ◌+◌, ◌-◌, ◌≤◌, ◌<◌}
-use native.Mathlib.Omega.{arith}
-use lib.ListN.{length, take, drop, length-drop}
-use lib.Seq.{take_all, take-add}
+use Rattle.std.specs.Prelude.{◌≡◌, refl, List, ℕ, ◌+◌, ◌-◌, ◌≤◌, ◌<◌, length, take, drop}
+use Rattle.std.proofs.Common.{ap, sym, ◌∙◌, arith, length-drop, take_all, take-add, drop-drop}
 use Rattle.laws.proofs.Lent.{lent_rest}
 use Rattle.lines.specs.Reader.{kept_chars, Reader, reads}
 use Rattle.lines.proofs.Reader.{reads_append, reads_kept}
@@ -18,45 +14,47 @@ use Rattle.session.proofs.States.{state_kept, made_reader, made_kind, made_tidy}
 use Rattle.program.specs.declared.Heard.{Heard}
 use Rattle.program.specs.Reason.{told_of, answered}
 
--- the first bytes of the part are answered: the state is of the same kind, its reader is the definition's after them, and once a step is
--- taken it is tidy
-pub record Answering (s : State) (part : List ℕ) (state : State) (at : ℕ) : Type 0 where
+-- what is left of the part is what stands behind the bytes that are answered: the state is of the same kind, its reader is the definition's
+-- after these, and once a step is taken it is tidy
+pub record Answering (s : State) (part : List ℕ) (state : State) (rest : List ℕ) : Type 0 where
+  pub at : ℕ
+  pub left : rest ≡ drop at part
   pub kind : state.kind ≡ s.kind
   pub size : length state.line ≡ kept_chars
-  pub most : at ≤ length part
   pub reader : reader_of state ≡ reads turn_of (reader_of s) (take at part)
   pub tidy : 1 ≤ at → state ≡ state_of s.kind (reader_of state)
 
-pub answering_none : (s : State) (part : List ℕ) → length s.line ≡ kept_chars → Answering s part s 0
+pub answering_none : (s : State) (part : List ℕ) → length s.line ≡ kept_chars → Answering s part s part
 unfolding reads
-answering_none s part size = record { kind = refl; size = size; most = omega arith; reader = refl; tidy = λ h. absurd (omega arith) }
+answering_none s part size = record {
+  at = 0;
+  left = refl;
+  kind = refl;
+  size = size;
+  reader = refl;
+  tidy = λ h. absurd (omega arith);
+}
 
 -- a step on what is left of the part, with room for a text
 module _
     {s : State}
     {part : List ℕ}
     {state : State}
-    {at : ℕ}
-    (v : Answering s part state at)
+    {rest : List ℕ}
+    (v : Answering s part state rest)
     (space : List ℕ)
     (room : width s.kind ≤ length space)
-    (more : at < length part)
+    (more : length rest ≡ 0 → ⊥)
     {r : Stepped}
     {after : List ℕ}
-    (p : StepPromise state (take (length part - at) (drop at part)) space r after)
+    (p : StepPromise state rest space r after)
   where
-    abbrev rest : List ℕ
-    rest = take (length part - at) (drop at part)
-
-    left : length rest ≡ length part - at
-    left = ap length (lent_rest part at) ∙ length-drop at part
-
     -- some bytes more are taken, none of them beyond the part's end
     pub step_some : 1 ≤ r.taken
-    step_some = taken_some state rest space p (rw v.kind room) (omega (arith, left))
+    step_some = taken_some state rest space p (rw v.kind room) (omega (arith, more))
 
-    pub step_most : at + r.taken ≤ length part
-    step_most = omega (arith, left, taken_most state rest space p)
+    pub step_most : r.taken ≤ length rest
+    step_most = taken_most state rest space p
 
     -- what was written lies within the space, which is as long as it was
     pub step_within : r.written ≤ length after
@@ -65,33 +63,39 @@ module _
     pub step_length : length after ≡ length space
     step_length = after_length state rest space p
 
-    pub answering_more : Answering s part r.state (at + r.taken)
+    pub answering_more : Answering s part r.state (take (length rest - r.taken) (drop r.taken rest))
     answering_more =
-        let q = take r.taken (drop at part) in
+        let q = take r.taken rest in
         let kept = reads_kept turn_of (reader_of state) q (state_kept state v.size) in
         let made : r.state ≡ state_of s.kind (reads turn_of (reader_of state) q) =
-        state_after state rest space p ∙ ap (λ (k : ℕ). state_of k (reads turn_of (reader_of state) (take r.taken rest))) v.kind
-        ∙ ap (λ (x : List ℕ). state_of s.kind (reads turn_of (reader_of state) (take r.taken x))) (lent_rest part at) in
+        state_after state rest space p ∙ ap (λ (k : ℕ). state_of k (reads turn_of (reader_of state) q)) v.kind in
         let same = made_kind s.kind (reads turn_of (reader_of state) q) kept made in
         let d = made_tidy s.kind (reads turn_of (reader_of state) q) kept made in
         record {
+          at = v.at + r.taken;
+          left = lent_rest rest r.taken ∙ ap (drop r.taken) v.left ∙ drop-drop r.taken v.at part;
           kind = same;
           size = d.size;
-          most = step_most;
           reader =
               made_reader s.kind (reads turn_of (reader_of state) q) kept made
-              ∙ ap (λ (x : Reader Session). reads turn_of x q) v.reader
-              ∙ sym (reads_append turn_of (reader_of s) (take at part) q)
-              ∙ ap (reads turn_of (reader_of s)) (sym (take-add at r.taken part));
+              ∙ ap (λ (x : List ℕ). reads turn_of (reader_of state) (take r.taken x)) v.left
+              ∙ ap (λ (x : Reader Session). reads turn_of x (take r.taken (drop v.at part))) v.reader
+              ∙ sym (reads_append turn_of (reader_of s) (take v.at part) (take r.taken (drop v.at part)))
+              ∙ ap (reads turn_of (reader_of s)) (sym (take-add v.at r.taken part));
           tidy = λ h. d.same ∙ ap (λ (k : ℕ). state_of k (reader_of r.state)) same;
         }
 
+    -- less of the part is left
+    pub step_less : length (take (length rest - r.taken) (drop r.taken rest)) < length rest
+    step_less = omega (arith, ap length (lent_rest rest r.taken), length-drop r.taken rest, step_some, more)
+
 -- at the end of the part the state is the definition's after it, and tells whether more may be read
-pub answering_all : {s : State} {part : List ℕ} {state : State} {at : ℕ} → Answering s part state at → length part ≤ at
+pub answering_all : {s : State} {part : List ℕ} {state : State} {rest : List ℕ} → Answering s part state rest → length rest ≡ 0
     → 1 ≤ length part → {r : Heard} → r ≡ told_of state → r ≡ answered s part
 unfolding answered
-answering_all {s} {part} {state} {at} v h k e =
+answering_all {s} {part} v z k e =
+    let past : length part ≤ v.at = omega (arith, ap length v.left, length-drop v.at part, z) in
     e
     ∙ ap told_of
-    (v.tidy (omega arith) ∙ ap (state_of s.kind) v.reader
-    ∙ ap (λ (x : List ℕ). state_of s.kind (reads turn_of (reader_of s) x)) (take_all at part h))
+    (v.tidy (omega (arith, k, past)) ∙ ap (state_of s.kind) v.reader
+    ∙ ap (λ (x : List ℕ). state_of s.kind (reads turn_of (reader_of s) x)) (take_all v.at part past))

@@ -1,16 +1,7 @@
 -- Wrong outcomes that the promises do not permit.
 -- Assumes nothing.
-use mathlib.Core.Path.{◌≡◌, refl, ap, sym, ◌∙◌}
-use mathlib.Core.Bool.{Bool, true, false}
-use mathlib.Core.Logic.{inl, inr, ⊎_elim}
-use mathlib.Core.List.{List}
-use Prim.Native.Nat.{ℕ, zero, suc, ◌-◌, ◌≤◌, ◌<◌, min}
-use native.Mathlib.Omega.{arith}
-use lib.Dec.{eqb, ltb}
-use lib.IntN.{ℤ, pos, negsuc}
-use lib.ListN.{length, take}
-use lib.Seq.{length-take-le}
-use borrow.Author.Tests.{eq-eqb, ne_eqb, lt-ltb, le-ltb, le-leb}
+use Rattle.std.specs.Prelude.{◌≡◌, refl, Bool, true, false, List, ℕ, zero, suc, ◌-◌, ◌≤◌, ◌<◌, min, eqb, ltb, ℤ, pos, negsuc, length, take}
+use Rattle.std.proofs.Common.{ap, sym, ◌∙◌, inl, inr, arith, eq-eqb, lt-ltb, le-ltb, ⊎_elim, length-take-le, ne_eqb, le-leb}
 use Rattle.laws.specs.Pick.{pick}
 use Rattle.io.specs.Counts.{clamp_len}
 use Rattle.lines.specs.Reader.{kept_chars, reads, closing}
@@ -22,8 +13,9 @@ use Rattle.session.proofs.Outcome.{written_within, last_told}
 use Rattle.session.proofs.Over.{reads_over}
 use Rattle.program.specs.declared.Heard.{Heard}
 use Rattle.program.specs.declared.Ran.{Ran}
-use Rattle.program.specs.Reason.{goes_on, input_ended, read_failed, write_failed, no_room, end_reason, closes, ended, ended_space}
-use Rattle.program.specs.Reason.{session_over, negative, told_of, answered, unread, unwritten}
+use Rattle.program.specs.declared.Reason.{Reason}
+use Rattle.program.specs.declared.Reason.TheVariants.{GoesOn, SessionOver, InputEnded, ReadFailed, WriteFailed, NoRoom}
+use Rattle.program.specs.Reason.{end_reason, closes, ended, ended_space, negative, told_of, answered, unread}
 use Rattle.program.specs.Hear.{hears, hears_space, HearPromise}
 use Rattle.program.specs.Run.{Ends, Runs}
 use Rattle.program.specs.Promise.{RunPromise}
@@ -37,12 +29,12 @@ module _ (s : State) (k : ℕ) (interrupted : Bool) (input space : List ℕ) {r 
     only = ⊎_elim (λ e. e) (λ f. absurd (let z : ◌≡◌ {A = ℕ} 0 1 = cc f.0 in omega arith)) p.0
 
 -- the loop leaves fewer reads than it had, and stops where more may be read only where none is left
-runs_fewer : (n : ℕ) (s : State) (r : Ran) → Runs n s r → (r.reads ≤ n - 1) × (r.reason ≡ goes_on → r.reads ≡ 0)
+runs_fewer : (n : ℕ) (s : State) (r : Ran) → Runs n s r → (r.reads ≤ n - 1) × (r.reason ≡ GoesOn → r.reads ≡ 0)
 runs_fewer zero s r e = (omega (arith, ap (λ (x : Ran). x.reads) e), λ z. ap (λ (x : Ran). x.reads) e)
 runs_fewer (suc n) s r p = by p.0.heard (λ f. runs_fewer n p.0.heard.state r f) p.1
   where
-    by : (h : Heard) → (Runs n p.0.heard.state r → (r.reads ≤ n - 1) × (r.reason ≡ goes_on → r.reads ≡ 0))
-        → Ends n h (Runs n p.0.heard.state r) r → (r.reads ≤ suc n - 1) × (r.reason ≡ goes_on → r.reads ≡ 0)
+    by : (h : Heard) → (Runs n p.0.heard.state r → (r.reads ≤ n - 1) × (r.reason ≡ GoesOn → r.reads ≡ 0))
+        → Ends n h (Runs n p.0.heard.state r) r → (r.reads ≤ suc n - 1) × (r.reason ≡ GoesOn → r.reads ≡ 0)
     by h i (inl f) = (omega (arith, (i f.1).0), (i f.1).1)
     by h i (inr g) = (
       omega (arith, ap (λ (x : Ran). x.reads) g.1),
@@ -56,7 +48,7 @@ module _ (s : State) (input space : List ℕ) where
   pick_kind false x y h k = k
 
   hears_kind : (got : ℤ) (interrupted : Bool) → (hears s got interrupted input space).state.kind ≡ s.kind
-  unfolding hears unread ended answered told_of step_answer state_of
+  unfolding hears ended answered told_of step_answer state_of
   hears_kind got interrupted =
       let n = clamp_len got (length input) in
       pick_kind (negative got) (unread s interrupted) (pick (eqb n 0) (ended s space) (answered s (take n input))) refl
@@ -64,17 +56,16 @@ module _ (s : State) (input space : List ℕ) where
 
   heard_kind : (got : ℤ) (interrupted : Bool) {r : Heard} {after : List ℕ} → HearPromise s got interrupted input space r after
       → r.state.kind ≡ s.kind
-  unfolding unwritten
   heard_kind got interrupted p =
       ⊎_elim (λ f. ap (λ (x : Heard). x.state.kind) f ∙ hears_kind got interrupted)
       (λ f. ap (λ (x : Heard). x.state.kind) f.1) p.0
 
-  pick_room : (b : Bool) (x y : Heard) → (x.reason ≡ no_room → ⊥) → (y.reason ≡ no_room → ⊥) → (pick b x y).reason ≡ no_room → ⊥
+  pick_room : (b : Bool) (x y : Heard) → (x.reason ≡ NoRoom → ⊥) → (y.reason ≡ NoRoom → ⊥) → (pick b x y).reason ≡ NoRoom → ⊥
   pick_room true x y h k = h
   pick_room false x y h k = k
 
-  hears_room : (got : ℤ) (interrupted : Bool) → width s.kind ≤ length space → (hears s got interrupted input space).reason ≡ no_room → ⊥
-  unfolding hears unread ended end_reason answered told_of
+  hears_room : (got : ℤ) (interrupted : Bool) → width s.kind ≤ length space → (hears s got interrupted input space).reason ≡ NoRoom → ⊥
+  unfolding hears ended end_reason answered told_of
   hears_room got interrupted room =
       let n = clamp_len got (length input) in
       let part = take n input in
@@ -82,31 +73,30 @@ module _ (s : State) (input space : List ℕ) where
       pick_room (negative got) (unread s interrupted) (pick (eqb n 0) (ended s space) (answered s part)) (again interrupted)
       (pick_room (eqb n 0) (ended s space) (answered s part)
       (λ z.
-      let e : pick {A = ℕ} (ltb (length space) (width s.kind)) no_room input_ended ≡ input_ended =
+      let e : pick {A = Reason} (ltb (length space) (width s.kind)) NoRoom InputEnded ≡ InputEnded =
       rw (le-ltb (length space) (width s.kind) room) in
-      omega (arith, e, z))
+      cc (e, z))
       (told (over state)))
     where
-      again : (b : Bool) → pick b goes_on read_failed ≡ no_room → ⊥
-      again true z = omega arith
-      again false z = omega arith
+      again : (b : Bool) → pick b GoesOn ReadFailed ≡ NoRoom → ⊥
+      again true z = cc z
+      again false z = cc z
 
-      told : (b : Bool) → pick b session_over goes_on ≡ no_room → ⊥
-      told true z = omega arith
-      told false z = omega arith
+      told : (b : Bool) → pick b SessionOver GoesOn ≡ NoRoom → ⊥
+      told true z = cc z
+      told false z = cc z
 
   heard_room : (got : ℤ) (interrupted : Bool) {r : Heard} {after : List ℕ} → width s.kind ≤ length space
-      → HearPromise s got interrupted input space r after → r.reason ≡ no_room → ⊥
-  unfolding unwritten
+      → HearPromise s got interrupted input space r after → r.reason ≡ NoRoom → ⊥
   heard_room got interrupted room p z =
       ⊎_elim (λ f. hears_room got interrupted room (ap (λ (x : Heard). x.reason) (sym f) ∙ z))
-      (λ f. let e : write_failed ≡ no_room = ap (λ (x : Heard). x.reason) (sym f.1) ∙ z in omega arith) p.0
+      (λ f. let e : WriteFailed ≡ NoRoom = ap (λ (x : Heard). x.reason) (sym f.1) ∙ z in cc e) p.0
 
 -- and so does the loop
-runs_kind : (n : ℕ) (s : State) (r : Ran) → Runs n s r → (r.state.kind ≡ s.kind) × (r.reason ≡ no_room → ⊥)
+runs_kind : (n : ℕ) (s : State) (r : Ran) → Runs n s r → (r.state.kind ≡ s.kind) × (r.reason ≡ NoRoom → ⊥)
 runs_kind zero s r e = (
   ap (λ (x : Ran). x.state.kind) e,
-  λ z. let k : goes_on ≡ no_room = ap (λ (x : Ran). x.reason) (sym e) ∙ z in omega arith,
+  λ z. let k : GoesOn ≡ NoRoom = ap (λ (x : Ran). x.reason) (sym e) ∙ z in cc k,
 )
 runs_kind (suc n) s r p =
     let t = p.0 in
@@ -114,9 +104,9 @@ runs_kind (suc n) s r p =
     (heard_room s t.input t.space t.got t.interrupted t.room t.permitted)
     (λ f. runs_kind n t.heard.state r f) p.1
   where
-    by : p.0.heard.state.kind ≡ s.kind → (p.0.heard.reason ≡ no_room → ⊥)
-        → (Runs n p.0.heard.state r → (r.state.kind ≡ p.0.heard.state.kind) × (r.reason ≡ no_room → ⊥))
-        → Ends n p.0.heard (Runs n p.0.heard.state r) r → (r.state.kind ≡ s.kind) × (r.reason ≡ no_room → ⊥)
+    by : p.0.heard.state.kind ≡ s.kind → (p.0.heard.reason ≡ NoRoom → ⊥)
+        → (Runs n p.0.heard.state r → (r.state.kind ≡ p.0.heard.state.kind) × (r.reason ≡ NoRoom → ⊥))
+        → Ends n p.0.heard (Runs n p.0.heard.state r) r → (r.state.kind ≡ s.kind) × (r.reason ≡ NoRoom → ⊥)
     by k w i (inl f) = ((i f.1).0 ∙ k, (i f.1).1)
     by k w i (inr g) = (
       ap (λ (x : Ran). x.state.kind) g.1 ∙ k,
@@ -140,8 +130,7 @@ closed s space {after} size stage begun room e =
 
 -- a read that failed, taken for anything else: for the end of the input, or to be made again
 pub failure_not_told : (s : State) (k : ℕ) (input space : List ℕ) (r : Heard) (after : List ℕ)
-    → HearPromise s (negsuc k) false input space r after → (r.reason ≡ read_failed → ⊥) → ⊥
-unfolding unread
+    → HearPromise s (negsuc k) false input space r after → (r.reason ≡ ReadFailed → ⊥) → ⊥
 failure_not_told s k input space r after p w = w (ap (λ (x : Heard). x.reason) (only s k false input space p))
 
 -- the line that is begun then, answered in the space
@@ -152,14 +141,13 @@ half_line_answered s k interrupted input space r after p w = w p.1
 
 -- a read that was only interrupted, and ends the program
 pub interrupted_and_ended : (s : State) (k : ℕ) (input space : List ℕ) (r : Heard) (after : List ℕ)
-    → HearPromise s (negsuc k) true input space r after → (r.reason ≡ goes_on → ⊥) → ⊥
-unfolding unread
+    → HearPromise s (negsuc k) true input space r after → (r.reason ≡ GoesOn → ⊥) → ⊥
 interrupted_and_ended s k input space r after p w = w (ap (λ (x : Heard). x.reason) (only s k true input space p))
 
 -- a program that goes on though the key line was refused
 pub goes_on_when_over : (s : State) (k : ℕ) (interrupted : Bool) (input space : List ℕ) (r : Heard) (after : List ℕ) → 2 ≤ s.stage
-    → 1 ≤ length input → HearPromise s (pos (suc k)) interrupted input space r after → r.reason ≡ goes_on → ⊥
-unfolding hears answered told_of unwritten over state_of reader_of
+    → 1 ≤ length input → HearPromise s (pos (suc k)) interrupted input space r after → r.reason ≡ GoesOn → ⊥
+unfolding hears answered told_of over state_of reader_of
 goes_on_when_over s k interrupted input space r after h some p e =
     let n = min (suc k) (length input) in
     let part = take n input in
@@ -167,10 +155,10 @@ goes_on_when_over s k interrupted input space r after h some p e =
     let stays = reads_over (reader_of s) part h in
     ⊎_elim
     (λ f.
-    let c : r.reason ≡ session_over =
+    let c : r.reason ≡ SessionOver =
     ap (λ (x : Heard). x.reason) f ∙ rw (ne_eqb n 0 came, le-leb 2 (reads turn_of (reader_of s) part).session.stage stays) in
-    omega arith)
-    (λ f. let c : r.reason ≡ write_failed = ap (λ (x : Heard). x.reason) f.1 in omega arith)
+    cc (c, e))
+    (λ f. let c : r.reason ≡ WriteFailed = ap (λ (x : Heard). x.reason) f.1 in cc (c, e))
     p.0
 
 -- a run that is another program's: send's, where check is to run, or the other way round
@@ -179,11 +167,11 @@ unfolding state_of
 other_program_run kind reads r p w = w ((runs_kind reads p.0 r p.2).0 ∙ ap (λ (x : State). x.kind) p.1)
 
 -- one in which there was no room for a last text
-pub no_room_lent : (kind reads : ℕ) (r : Ran) → RunPromise kind reads r → r.reason ≡ no_room → ⊥
+pub no_room_lent : (kind reads : ℕ) (r : Ran) → RunPromise kind reads r → r.reason ≡ NoRoom → ⊥
 no_room_lent kind reads r p z = (runs_kind reads p.0 r p.2).1 z
 
 -- a loop that stops, saying that more may be read, with reads left
-pub stopped_early : (kind reads : ℕ) (r : Ran) → RunPromise kind reads r → r.reason ≡ goes_on → 1 ≤ r.reads → ⊥
+pub stopped_early : (kind reads : ℕ) (r : Ran) → RunPromise kind reads r → r.reason ≡ GoesOn → 1 ≤ r.reads → ⊥
 stopped_early kind reads r p e h = omega (arith, (runs_fewer reads p.0 r p.2).1 e)
 
 -- one that hands back as many reads as it had, as where none was made
@@ -205,14 +193,14 @@ last_line_lost s interrupted input space r after size stage begun room p w =
 
 -- or that is lost in silence for want of room
 pub lost_without_room : (s : State) (interrupted : Bool) (input space : List ℕ) (r : Heard) (after : List ℕ)
-    → length space < width s.kind → HearPromise s (pos 0) interrupted input space r after → r.reason ≡ input_ended → ⊥
-unfolding hears ended end_reason unwritten
+    → length space < width s.kind → HearPromise s (pos 0) interrupted input space r after → r.reason ≡ InputEnded → ⊥
+unfolding hears ended end_reason
 lost_without_room s interrupted input space r after h p e =
     let n : min 0 (length input) ≡ 0 = omega arith in
     ⊎_elim
     (λ f.
-    let k : r.reason ≡ no_room =
+    let k : r.reason ≡ NoRoom =
     ap (λ (x : Heard). x.reason) f ∙ rw (eq-eqb (min 0 (length input)) 0 n, lt-ltb (length space) (width s.kind) h) in
-    omega arith)
-    (λ f. let k : r.reason ≡ write_failed = ap (λ (x : Heard). x.reason) f.1 in omega arith)
+    cc (k, e))
+    (λ f. let k : r.reason ≡ WriteFailed = ap (λ (x : Heard). x.reason) f.1 in cc (k, e))
     p.0

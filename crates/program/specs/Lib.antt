@@ -1,5 +1,5 @@
+pub mod Given
 pub mod Hear
-pub mod Inner
 pub mod Promise
 pub mod Reason
 pub mod Run

@@ -2,8 +2,8 @@
 -- no contract can see. So of `hear` any two outcomes with the same reason are equal, which tells where a write failed; and of `run` any
 -- two at whose turns the same was made of the reads.
 -- Assumes nothing.
-use Rattle.std.specs.Prelude.{◌≡◌, refl, Bool, true, false, ◌⊎◌, List, ℕ, ◌≤◌, eqb, ltb, ℤ, length, take}
-use Rattle.std.proofs.Common.{ap, sym, ◌∙◌, inl, inr, arith}
+use Rattle.std.specs.Prelude.{◌≡◌, refl, Bool, true, false, ◌⊎◌, List, ℕ, eqb, ltb, ℤ, length, take}
+use Rattle.std.proofs.Common.{ap, sym, ◌∙◌, inl, inr}
 use Rattle.laws.specs.Pick.{pick}
 use Rattle.laws.proofs.Once.{once}
 use Rattle.io.specs.Counts.{clamp_len}
@@ -13,34 +13,38 @@ use Rattle.session.specs.Session.{width, turn_of, reader_of, state_of, over}
 use Rattle.session.specs.Promise.{BeginPromise}
 use Rattle.program.specs.declared.Heard.{Heard}
 use Rattle.program.specs.declared.Ran.{Ran}
-use Rattle.program.specs.Reason.{goes_on, session_over, input_ended, write_failed, no_room, negative, told_of, answered, end_reason}
-use Rattle.program.specs.Reason.{ended, unwritten}
+use Rattle.program.specs.declared.Reason.TheVariants.{GoesOn, SessionOver, InputEnded, WriteFailed, NoRoom}
+use Rattle.program.specs.Reason.{negative, told_of, answered, end_reason, ended, unwritten}
 use Rattle.program.specs.Hear.{hears, hears_space, HearPromise}
 use Rattle.program.specs.Run.{Runs, heard_in, heard_once}
 
 -- what is made of a read that did not fail is told apart from a write that failed
-answered_most : (s : State) (part : List ℕ) → (answered s part).reason ≤ session_over
+answered_not : (s : State) (part : List ℕ) → (answered s part).reason ≡ WriteFailed → ⊥
 unfolding answered told_of
-answered_most s part = most (over (state_of s.kind (reads turn_of (reader_of s) part)))
+answered_not s part e = by (over (state_of s.kind (reads turn_of (reader_of s) part))) e
   where
-    most : (b : Bool) → pick b session_over goes_on ≤ session_over
-    most true = omega arith
-    most false = omega arith
+    by : (b : Bool) → pick b SessionOver GoesOn ≡ WriteFailed → ⊥
+    by true e = cc e
+    by false e = cc e
 
-ended_not : (c : Bool) → pick c no_room input_ended ≡ write_failed → ⊥
-ended_not true e = omega arith
-ended_not false e = omega arith
+ended_not : (s : State) (space : List ℕ) → (ended s space).reason ≡ WriteFailed → ⊥
+unfolding ended end_reason
+ended_not s space e = by (ltb (length space) (width s.kind)) e
+  where
+    by : (b : Bool) → pick b NoRoom InputEnded ≡ WriteFailed → ⊥
+    by true e = cc e
+    by false e = cc e
 
 not_unwritten : (s : State) (got : ℤ) (interrupted : Bool) (input space : List ℕ) → negative got ≡ false
-    → (hears s got interrupted input space).reason ≡ write_failed → ⊥
-unfolding hears ended end_reason
+    → (hears s got interrupted input space).reason ≡ WriteFailed → ⊥
+unfolding hears
 not_unwritten s got interrupted input space h e =
     let part = take (clamp_len got (length input)) input in
-    by (eqb (clamp_len got (length input)) 0) (answered s part) (answered_most s part) (rw h at e)
+    by (eqb (clamp_len got (length input)) 0) (answered s part) (answered_not s part) (rw h at e)
   where
-    by : (b : Bool) (a : Heard) → a.reason ≤ session_over → (pick b (ended s space) a).reason ≡ write_failed → ⊥
-    by true a k e = ended_not (ltb (length space) (width s.kind)) e
-    by false a k e = omega arith
+    by : (b : Bool) (a : Heard) → (a.reason ≡ WriteFailed → ⊥) → (pick b (ended s space) a).reason ≡ WriteFailed → ⊥
+    by true a w e = ended_not s space e
+    by false a w e = w e
 
 -- hear has an outcome for every input
 pub hear_some : (s : State) (got : ℤ) (interrupted : Bool) (input space : List ℕ)
@@ -51,7 +55,6 @@ hear_some s got interrupted input space = (hears s got interrupted input space, 
 pub hear_once : (s : State) (got : ℤ) (interrupted : Bool) (input space : List ℕ) (r r' : Heard) (after after' : List ℕ)
     → HearPromise s got interrupted input space r after → HearPromise s got interrupted input space r' after'
     → r.reason ≡ r'.reason → (r ≡ r') × (after ≡ after')
-unfolding unwritten
 hear_once s got interrupted input space r r' after after' p q e = (by p.0 q.0, once p.1 q.1)
   where
     differs : (x y : Heard) → x ≡ hears s got interrupted input space → negative got ≡ false → y ≡ unwritten s → x.reason ≡ y.reason → ⊥

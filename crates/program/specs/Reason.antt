@@ -7,30 +7,8 @@ use Rattle.session.specs.declared.State.{State}
 use Rattle.session.specs.Session.{width, turn_of, reader_of, state_of, over}
 use Rattle.session.specs.Promise.{taken_of, said_over, step_answer}
 use Rattle.program.specs.declared.Heard.{Heard}
-
--- the reasons: more may be read
-abbrev pub goes_on : ℕ
-goes_on = 0
-
--- nothing more is answered
-abbrev pub session_over : ℕ
-session_over = 1
-
--- the input has ended
-abbrev pub input_ended : ℕ
-input_ended = 2
-
--- a read failed
-abbrev pub read_failed : ℕ
-read_failed = 3
-
--- a write failed
-abbrev pub write_failed : ℕ
-write_failed = 4
-
--- the input has ended, and there is no room for the text at a last line
-abbrev pub no_room : ℕ
-no_room = 5
+use Rattle.program.specs.declared.Reason.{Reason}
+use Rattle.program.specs.declared.Reason.TheVariants.{GoesOn, SessionOver, InputEnded, ReadFailed, WriteFailed, NoRoom}
 
 -- a read failed: it gave a number below 0
 abbrev pub negative : ℤ → Bool
@@ -39,15 +17,15 @@ negative (negsuc k) = true
 
 -- with a state after a part that is answered: whether more may be read
 unfoldable pub told_of : State → Heard
-told_of state = record { reason = pick (over state) session_over goes_on; state = state }
+told_of state = record { reason = pick (over state) SessionOver GoesOn; state = state }
 
 -- a part that is answered: the reader's state after it
 unfoldable pub answered : State → List ℕ → Heard
 answered s part = told_of (state_of s.kind (reads turn_of (reader_of s) part))
 
 -- at the end of the input of a program of a kind, with so much room
-unfoldable pub end_reason : ℕ → ℕ → ℕ
-end_reason kind room = pick (ltb room (width kind)) no_room input_ended
+unfoldable pub end_reason : ℕ → ℕ → Reason
+end_reason kind room = pick (ltb room (width kind)) NoRoom InputEnded
 
 -- how many bytes of what a state lacks the finishing step takes, with so much room: all of them, where there is room for a text
 abbrev pub closes : State → ℕ → ℕ
@@ -67,9 +45,9 @@ ended_space s space =
     ++ drop (length (said_over s (closing (reader_of s)) (closes s (length space)))) space
 
 -- a read that failed: it is made again where it was only interrupted
-unfoldable pub unread : State → Bool → Heard
-unread s interrupted = record { reason = pick interrupted goes_on read_failed; state = s }
+abbrev pub unread : State → Bool → Heard
+unread s interrupted = record { reason = pick interrupted GoesOn ReadFailed; state = s }
 
 -- a write that failed: the state that was given
-unfoldable pub unwritten : State → Heard
-unwritten s = record { reason = write_failed; state = s }
+abbrev pub unwritten : State → Heard
+unwritten s = record { reason = WriteFailed; state = s }

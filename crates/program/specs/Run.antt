@@ -12,7 +12,7 @@ use Rattle.session.specs.declared.State.{State}
 use Rattle.session.specs.Session.{width}
 use Rattle.program.specs.declared.Heard.{Heard}
 use Rattle.program.specs.declared.Ran.{Ran}
-use Rattle.program.specs.Reason.{goes_on}
+use Rattle.program.specs.declared.Reason.TheVariants.{GoesOn}
 use Rattle.program.specs.Hear.{HearPromise}
 
 -- a turn from a state on: what a read gave and brought, a space with room for a last text, and what was made of it
@@ -29,13 +29,13 @@ pub record Hearing (s : State) : Type 0 where
 -- after a turn that was made so much of, with n reads left: it goes on, or ends with that reason
 abbrev pub Ends : ℕ → Heard → Type 0 → Ran → Type 0
 Ends n heard on r =
-    ((heard.reason ≡ goes_on) × on)
-    ⊎ ((heard.reason ≡ goes_on → ⊥) × (r ≡ record { reason = heard.reason; reads = n; state = heard.state }))
+    ((heard.reason ≡ GoesOn) × on)
+    ⊎ ((heard.reason ≡ GoesOn → ⊥) × (r ≡ record { reason = heard.reason; reads = n; state = heard.state }))
 
 -- the loop from a state on, with so many reads left: with none it ends, and says that it would go on; otherwise one turn is taken, and it
 -- goes on from there, or ends
 abbrev pub Runs : ℕ → State → Ran → Type 0
-Runs zero s r = r ≡ record { reason = goes_on; reads = 0; state = s }
+Runs zero s r = r ≡ record { reason = GoesOn; reads = 0; state = s }
 Runs (suc n) s r = (t : Hearing s) × Ends n t.heard (Runs n t.heard.state r) r
 
 -- what follows a turn
@@ -56,7 +56,7 @@ heard_in (suc n) s r p = p.0.heard ∷ behind n p.0 r (λ f. heard_in n p.0.hear
 pub heard_once : (n : ℕ) (s s' : State) (r r' : Ran) → s ≡ s' → (p : Runs n s r) (q : Runs n s' r')
     → heard_in n s r p ≡ heard_in n s' r' q → r ≡ r'
 unfolding heard_in
-heard_once zero s s' r r' a p q e = p ∙ ap (λ (x : State). record { reason = goes_on; reads = 0; state = x }) a ∙ sym q
+heard_once zero s s' r r' a p q e = p ∙ ap (λ (x : State). record { reason = GoesOn; reads = 0; state = x }) a ∙ sym q
 heard_once (suc n) s s' r r' a p q e =
     let h : p.0.heard ≡ q.0.heard = ap (λ (l : List Heard). get_or l 0 p.0.heard) e in
     by p.0 q.0

@@ -15,158 +15,153 @@
 //     }
 #![tactic(auto)]
 
-ghost use Rattle.std.specs.Prelude.{◌≡◌, ◌≤◌, length};
-ghost use Rattle.program.specs.Reason.{negative, told_of, end_reason};
-ghost use Rattle.program.specs.Inner.{Answers, Finishes};
+ghost use Rattle.std.specs.Prelude.{◌≡◌, ◌≤◌, length, IfOk};
+ghost use Rattle.program.specs.Given.{got_of, interrupted_of};
+ghost use Rattle.program.specs.Reason.{told_of, answered, ended, ended_space};
 ghost use Rattle.program.specs.Hear.{HearPromise};
 ghost use Rattle.program.specs.Promise.{RunPromise};
 
 mod streams;
 
 use session::State;
+use std::io;
+use std::io::{ErrorKind, Read};
 pub use streams::Streams;
 
 // Why a turn ended, or the loop: more may be read; nothing more is answered; the input has ended; a read
 // failed; a write did; or the input has ended, and the space has no room for a last text.
-pub const GOES_ON: u8 = 0;
+#[derive(Clone, Copy, Debug, PartialEq, Eq)]
+pub enum Reason {
+    GoesOn,
+    SessionOver,
+    InputEnded,
+    ReadFailed,
+    WriteFailed,
+    NoRoom,
+}
 
-pub const SESSION_OVER: u8 = 1;
-
-pub const INPUT_ENDED: u8 = 2;
-
-pub const READ_FAILED: u8 = 3;
-
-pub const WRITE_FAILED: u8 = 4;
-
-pub const NO_ROOM: u8 = 5;
+// The bytes that are read at a time, at most.
+const READ: usize = 65536;
 
 // The bytes of texts that are written at a time, at most: 780 verdicts, or 69 frame lines of bodies of 100
 // bytes with tags of 16, where a full read brings 281 such frames or 326 such bodies. They are cleared for
 // each part, so they are not many more.
 const SPACE: usize = 16384;
 
+// The room for the text at a last line that lacks its line feed.
+const LAST: usize = 4096;
+
 // What was made of a read: why the turn ended, and the state after it; the state that was given where the
 // read or a write failed.
 #[derive(Clone, Copy)]
 pub struct Heard {
-    pub reason: u8,
+    pub reason: Reason,
     pub state: State,
 }
 
 // Why the loop ended, how many reads were left, and the state at its end.
 #[derive(Clone, Copy)]
 pub struct Ran {
-    pub reason: u8,
+    pub reason: Reason,
     pub reads: u64,
     pub state: State,
 }
 
-// Whether a read failed, by what it gave.
-fn failed(got: isize) -> bool
-    ensures { result ≡ negative got }
-{
-    got < 0
-}
-
 // After a part of the input, of which all texts were written.
+#[tactic(auto, unfolding(crate::specs::Reason::told_of))]
 fn told(state: State) -> Heard
     ensures { result ≡ told_of state }
 {
-    if session::is_over(state) {
-        return Heard {
-            reason: SESSION_OVER,
-            state,
-        };
-    }
-    Heard {
-        reason: GOES_ON,
-        state,
-    }
-}
-
-// Answers a part of the input: as much of it as a space has room for the texts at, again and again,
-// and what was written goes out each time. A write that was interrupted counts as one that failed.
-fn answer(streams: Streams<'_>, s: State, part: &[u8]) -> Heard
-    requires { 1 ≤ length part.now }
-    ensures { Answers s part.now result }
-{
-    let mut space = [0u8; SPACE];
-    let mut state = s;
-    let mut at: usize = 0;
-    while at < part.len() {
-        let a = session::step(state, &part[at..], &mut space);
-        let next = a.state;
-        state = next;
-        let end = a.written;
-        if !streams::write_all(streams, &space[..end]) {
-            return Heard {
-                reason: WRITE_FAILED,
-                state: s,
-            };
-        }
-        at += a.taken;
-    }
-    told(state)
-}
-
-// At the end of the input, by the room that there is for a last text, in a program of a kind.
-fn end_reason(kind: u8, room: usize) -> u8
-    ensures { result ≡ end_reason kind room }
-{
-    if room < session::width(kind) {
-        NO_ROOM
+    let reason = if session::is_over(state) {
+        Reason::SessionOver
     } else {
-        INPUT_ENDED
-    }
-}
-
-// The end of the input: a last line may lack its line feed.
-fn finish(streams: Streams<'_>, s: State, space: &mut [u8]) -> Heard
-    ensures { Finishes s space.old result space.new }
-{
-    let reason = end_reason(s.kind, space.len());
-    let a = session::finish(s, space);
-    let end = a.written;
-    if !streams::write_all(streams, &space[..end]) {
-        return Heard {
-            reason: WRITE_FAILED,
-            state: s,
-        };
-    }
-    let state = a.state;
+        Reason::GoesOn
+    };
     Heard { reason, state }
 }
 
-// What is made of a read: of what it gave, of whether it was only interrupted, and of what it brought. The
-// texts go to standard output, and that a write failed is said. A read that failed is no end of the input:
-// the line that is begun is not answered. The space is for the text at a last line that lacks its line feed.
-pub fn hear<'a>(
+// Answers a part of the input: as much of it as a space has room for the texts at, again and again,
+// and what was written goes out each time.
+fn answer(streams: Streams<'_>, s: State, part: &[u8]) -> io::Result<Heard>
+    requires { 1 ≤ length part.now }
+    ensures { IfOk result (λ h. h ≡ answered s part.now) }
+{
+    let mut space = [0; SPACE];
+    let mut state = s;
+    let mut rest = part;
+    while !rest.is_empty() {
+        let stepped = session::step(state, rest, &mut space);
+        streams.write_all(&space[..stepped.written])?;
+        state = stepped.state;
+        rest = &rest[stepped.taken..];
+    }
+    Ok(told(state))
+}
+
+// The end of the input: a last line may lack its line feed.
+#[tactic(auto, unfolding(crate::specs::Reason::end_reason, crate::specs::Reason::ended, crate::specs::Reason::ended_space))]
+fn finish(streams: Streams<'_>, s: State, space: &mut [u8]) -> io::Result<Heard>
+    ensures told { IfOk result (λ h. h ≡ ended s space.old) }
+    ensures left { space.new ≡ ended_space s space.old }
+{
+    let reason = if space.len() < session::width(s.kind) {
+        Reason::NoRoom
+    } else {
+        Reason::InputEnded
+    };
+    let stepped = session::finish(s, space);
+    streams.write_all(&space[..stepped.written])?;
+    Ok(Heard {
+        reason,
+        state: stepped.state,
+    })
+}
+
+// What is made of a read: of what it gave, and of what it brought. The texts go to standard output, and that
+// the read or a write failed is said. A read that failed is no end of the input: the line that is begun is
+// not answered; one that was only interrupted is made again. The space is for the text at a last line that
+// lacks its line feed.
+#[tactic(auto, using(crate::proofs::Hearing::interrupted_tells), unfolding(crate::specs::Hear::hears, crate::specs::Hear::hears_space))]
+pub fn hear(
     streams: Streams<'_>,
     s: State,
-    got: isize,
-    interrupted: bool,
-    input: &'a [u8],
-    space: &'a mut [u8],
+    given: io::Result<usize>,
+    input: &[u8],
+    space: &mut [u8],
 ) -> Heard
-    ensures { HearPromise s got interrupted input.now space.old result space.new }
+    ensures { HearPromise s (got_of given) (interrupted_of given) input.now space.old result space.new }
 {
-    if failed(got) {
-        if interrupted {
+    let n = match given {
+        Ok(n) => n.min(input.len()),
+        Err(why) if why.kind() == ErrorKind::Interrupted => {
             return Heard {
-                reason: GOES_ON,
+                reason: Reason::GoesOn,
                 state: s,
             };
         }
-        return Heard {
-            reason: READ_FAILED,
-            state: s,
-        };
+        Err(why) => {
+            streams.complain(b": standard input cannot be read: ", why);
+            return Heard {
+                reason: Reason::ReadFailed,
+                state: s,
+            };
+        }
+    };
+    let heard = if n == 0 {
+        finish(streams, s, space)
+    } else {
+        answer(streams, s, &input[..n])
+    };
+    match heard {
+        Ok(heard) => heard,
+        Err(why) => {
+            streams.complain(b": standard output cannot be written: ", why);
+            Heard {
+                reason: Reason::WriteFailed,
+                state: s,
+            }
+        }
     }
-    let n = io::count(got, input);
-    if n == 0 {
-        return finish(streams, s, space);
-    }
-    answer(streams, s, &input[..n])
 }
 
 // The program of a kind, of at most so many reads: how it ended, how many were left, and the state at its
@@ -176,27 +171,24 @@ pub fn hear<'a>(
 pub fn run(streams: Streams<'_>, kind: u8, reads: u64) -> Ran
     ensures { RunPromise kind reads result }
 {
-    let mut input = io::large_buffer();
-    let mut space = io::buffer();
+    let mut input = [0; READ];
+    let mut space = [0; LAST];
+    let mut from = streams.input;
     let mut s = session::begin(kind);
-    let mut left = reads;
-    while left > 0 {
-        left -= 1;
-        let given = streams::read(streams, &mut input);
-        let h = hear(streams, s, given.got, given.interrupted, &input, &mut space);
-        let reason = h.reason;
-        let next = h.state;
-        s = next;
-        if reason != GOES_ON {
+    for left in (0..reads).rev() {
+        let given = from.read(&mut input);
+        let heard = hear(streams, s, given, &input, &mut space);
+        if heard.reason != Reason::GoesOn {
             return Ran {
-                reason,
+                reason: heard.reason,
                 reads: left,
-                state: s,
+                state: heard.state,
             };
         }
+        s = heard.state;
     }
     Ran {
-        reason: GOES_ON,
+        reason: Reason::GoesOn,
         reads: 0,
         state: s,
     }

@@ -1,11 +1,11 @@
-use mathlib.Core.Path.{◌≡◌}
-use Prim.Native.Nat.{◌-◌}
-use lib.ListN.{length}
+-- What each turn of `program::answer` keeps: the state is that behind the bytes that are answered.
+-- Assumes nothing.
+use Rattle.std.specs.Prelude.{length}
 use Rattle.program.proofs.Answering.{Answering}
 use Rattle.program.proofs.answer.Given as goal
 
-abbrev pub invariant-loop-at : goal.invariant-loop-at
-invariant-loop-at l = (16384 ≡ length l.space) × Answering l.s l.part l.state l.at
+abbrev pub invariant-loop-rest : goal.invariant-loop-rest
+invariant-loop-rest l = Answering l.fn.s l.part l.state l.rest
 
-abbrev pub decreases-loop-at : goal.decreases-loop-at
-decreases-loop-at l = length l.part - l.at
+abbrev pub decreases-loop-rest : goal.decreases-loop-rest
+decreases-loop-rest l = length l.rest

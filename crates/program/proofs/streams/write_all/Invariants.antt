@@ -1,9 +1,0 @@
--- Less is left to write after each turn.
-use Rattle.std.proofs.Common.{length, ◌-◌, ◌≤◌}
-use Rattle.program.proofs.streams.write_all.Given as goal
-
-abbrev pub invariant-loop-done : goal.invariant-loop-done
-invariant-loop-done l = l.done ≤ length l.bytes
-
-abbrev pub decreases-loop-done : goal.decreases-loop-done
-decreases-loop-done l = length l.bytes - l.done
