@@ -65,7 +65,8 @@ module _ (a : FrameAnswer) (bytes space : List ℕ) (e : bytes ≡ answer_bytes 
 
     pub feed_within : n < length written
     feed_within =
-        omega (arith, ap length laid, length-append (encoded bytes) (drop 20 space), length-drop 20 space, encoded_length bytes, ten, twenty)
+        let size = ap length laid ∙ length-append (encoded bytes) (drop 20 space) in
+        omega (arith, length-drop 20 space, encoded_length bytes, ten, twenty)
 
     pub tells_encoded : TellPromise a space (n + 1) (set written n line_feed)
     unfolding text_of

@@ -32,7 +32,8 @@ slice_bounds-slice-end c =
     sym (length-take-le _ _ (omega (arith, c.size.ensures, (fits (goal.at.slice_bounds-slice-end c).In_ok-fault).set.tag.high)))
 
 -- the slice for the tag is of its size
-sized : (c : In_ok-fault) {n : ℕ} (z : List ℕ) → n ≡ tag_bytes c.args.keys.bits → length z ≡ 16 → length (take n z) ≡ tag_bytes c.args.keys.bits
+sized : (c : In_ok-fault) {n : ℕ} (z : List ℕ) → n ≡ tag_bytes c.args.keys.bits → length z ≡ 16
+    → length (take n z) ≡ tag_bytes c.args.keys.bits
 sized c z e l = length-take-le _ z (omega (arith, (fits c).set.tag.high)) ∙ e
 
 pub returns-in_err-counts : goal.returns-in_err-counts
