@@ -60,29 +60,38 @@ fn put(subkeys: [u8; 304], n: usize, block: [u8; 16]) -> [u8; 304]
     r
 }
 
-// One step: E of L ⊕ [counter], counted as it is taken, and its block at place n.
-fn take_one(round: &[u8; 176], l: [u8; 16], t: Taken, n: usize, counter: u8) -> Taken
-    requires { (n < 19) × (t.steps < 19) }
-    ensures { result ≡ stored t n (cipher round.now (l ⊕ numbered counter)) }
-{
-    let block = aes::encrypt_block(round, block::xor(l, block::numbered(counter)));
-    let before = t.subkeys;
-    Taken {
-        subkeys: put(before, n, block),
-        steps: t.steps + 1,
-    }
+// What every step is taken with: the schedule of K, for E, and L.
+#[derive(Clone, Copy)]
+struct Source<'a> {
+    round: &'a [u8; 176],
+    l: [u8; 16],
 }
 
-// n steps, their counters and their places one after the other.
-fn run(round: &[u8; 176], l: [u8; 16], t: Taken, place: usize, counter: u8, n: u8) -> Taken
-    requires { (place + n ≤ 19) × (counter + n ≤ 19) × (t.steps + n ≤ 19) }
-    ensures { result ≡ ran (cipher round.now) l place counter t n }
-{
-    let mut r = t;
-    for i in 0..n {
-        r = take_one(round, l, r, place + i as usize, counter + i);
+impl<'a> Source<'a> {
+    // One step: E of L ⊕ [counter], counted as it is taken, and its block at place n.
+    fn take_one(&self, t: Taken, n: usize, counter: u8) -> Taken
+        requires { (n < 19) × (t.steps < 19) }
+        ensures { result ≡ stored t n (cipher self.now.round.now (self.now.l ⊕ numbered counter)) }
+    {
+        let block = aes::encrypt_block(self.round, block::xor(self.l, block::numbered(counter)));
+        let before = t.subkeys;
+        Taken {
+            subkeys: put(before, n, block),
+            steps: t.steps + 1,
+        }
     }
-    r
+
+    // n steps, their counters and their places one after the other.
+    fn run(&self, t: Taken, place: usize, counter: u8, n: u8) -> Taken
+        requires { (place + n ≤ 19) × (counter + n ≤ 19) × (t.steps + n ≤ 19) }
+        ensures { result ≡ ran (cipher self.now.round.now) self.now.l place counter t n }
+    {
+        let mut r = t;
+        for i in 0..n {
+            r = self.take_one(r, place + i as usize, counter + i);
+        }
+        r
+    }
 }
 
 // Algorithm 2.1 for the order d: its first loop makes the parts, its second the auxiliary keys.
@@ -90,10 +99,11 @@ pub(crate) fn made(round: &[u8; 176], l: [u8; 16], d: u8) -> Taken
     requires { (1 ≤ d) × (d ≤ 5) }
     ensures { result ≡ taken (cipher round.now) l d }
 {
+    let source = Source { round, l };
     let none = Taken {
         subkeys: [0; 304],
         steps: 0,
     };
-    let parts = run(round, l, none, PARTS, 0, 3 * d);
-    run(round, l, parts, AUXES, 3 * d, d - 1)
+    let parts = source.run(none, PARTS, 0, 3 * d);
+    source.run(parts, AUXES, 3 * d, d - 1)
 }

@@ -1,7 +1,7 @@
--- `keys::subkeys::take_one` meets its contract. Its callees, put together, are the definition's step.
+-- `keys::subkeys::Source::take_one` meets its contract. Its callees, put together, are the definition's step.
 -- Assumes nothing.
 use Rattle.keys.proofs.Ran.{stored_is}
-use Rattle.keys.proofs.subkeys.take_one.Goals as goal
+use Rattle.keys.proofs.subkeys.Source.take_one.Goals as goal
 
 pub returns : goal.returns
 returns c =

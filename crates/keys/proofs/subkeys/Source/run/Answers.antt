@@ -1,8 +1,8 @@
--- `keys::subkeys::run` meets its contract. After i turns i steps are taken; n - i turns are left.
+-- `keys::subkeys::Source::run` meets its contract. After i turns i steps are taken; n - i turns are left.
 -- Assumes nothing.
 use Rattle.std.proofs.Common.{arith, rules}
 use Rattle.keys.proofs.Ran.{running_none, running_room, running_more, running_all}
-use Rattle.keys.proofs.subkeys.run.Goals as goal
+use Rattle.keys.proofs.subkeys.Source.run.Goals as goal
 
 pub loop-i-init : goal.loop-i-init
 loop-i-init c = running_none _ _ _ _ _ _ c.requires.0 c.requires.1 c.requires.2
