@@ -4,11 +4,11 @@ use mathlib.Core.Path.{◌≡◌, ap₂, sym, ◌∙◌}
 use mathlib.Core.List.{List, ◌++◌}
 use Prim.Native.Nat.{ℕ, ◌+◌, ◌-◌, ◌≤◌, ◌<◌}
 use native.Mathlib.Omega.{arith}
-use lib.ListN.{length, get_or, take, drop, replicate, length-drop, get_or-replicate}
-use lib.ListN.{length-take, get_or-append, get_or-eq_default}
-use lib.Seq.{ext_get_or, get_or-take}
+use lib.ListN.{length, get_or, take, drop, replicate, length-drop}
+use lib.ListN.{length-take, get_or-append}
+use lib.Seq.{get_or-take}
 use Rattle.laws.proofs.Filled.{filled_length, filled_at, filled_long, filled_short, filled_front, filled_all}
-use Rattle.block.specs.Block.{zeros, sixteen}
+use Rattle.block.specs.Block.{sixteen}
 
 -- sixteen bytes they are
 pub sixteen_length : (x : List ℕ) → length (sixteen x) ≡ 16
@@ -43,15 +43,6 @@ sixteen_once x y n h e =
 -- sixteen bytes that stand there
 pub sixteen_whole : (x : List ℕ) (at : ℕ) → at + 16 ≤ length x → sixteen (drop at x) ≡ take 16 (drop at x)
 sixteen_whole x at h = sixteen_long (drop at x) (simp length-drop (omega arith))
-
--- none of which stands there
-pub sixteen_beyond : (x : List ℕ) (at : ℕ) → length x ≤ at → sixteen (drop at x) ≡ zeros
-sixteen_beyond x at h =
-    let n : length (drop at x) ≡ 0 = length-drop at x ∙ omega arith in
-    ext_get_or 0 (sixteen (drop at x)) zeros (sixteen_length (drop at x))
-    (λ j b.
-    let b' : j < 16 = rw sixteen_length at b in
-    sixteen_at (drop at x) j b' ∙ get_or-eq_default (drop at x) 0 (omega arith) ∙ sym (get_or-replicate 16 j 0 0 b'))
 
 -- a list of sixteen bytes is as it is
 pub sixteen_all : (x : List ℕ) → length x ≡ 16 → sixteen x ≡ x

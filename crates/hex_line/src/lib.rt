@@ -71,6 +71,8 @@ fn fill<'a>(line: &'a [u8], space: &'a mut [u8])
     requires { (is_hex line.now ≡ true) × (length line.now / 2 ≤ length space.old) }
     ensures { space.new ≡ decoded line.now ++ drop (length line.now / 2) space.old }
 {
+    // by an index: of a slice that an adapter of iter_mut went through the check knows nothing, so
+    // with chunks_exact and zip the proof does not close
     for i in 0..line.len() / 2 {
         space[i] = byte(line[2 * i], line[2 * i + 1]);
     }
@@ -120,6 +122,7 @@ fn spell<'a>(bytes: &'a [u8], space: &'a mut [u8])
     requires { 2 * length bytes.now ≤ length space.old }
     ensures { space.new ≡ encoded bytes.now ++ drop (2 * length bytes.now) space.old }
 {
+    // chunks_exact_mut would lose the slice, as in `fill`
     for (i, b) in bytes.iter().enumerate() {
         space[2 * i] = high(*b);
         space[2 * i + 1] = low(*b);

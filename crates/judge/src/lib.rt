@@ -22,7 +22,8 @@ const MESSAGE_LIMIT: usize = 1048576;
 // Up to so many bytes no block is known not to be the last, so that the chain value is still zeros.
 const FIRST_BLOCK: usize = 16;
 
-// A message of which some bytes are known: what has to be kept of them until the next part comes.
+// A message of which some bytes are known: what has to be kept of them until the next part comes. A caller
+// hands it in, with whatever fields, and the promises judge and name each: so none stands in a type of its own.
 #[derive(Clone, Copy)]
 pub struct Stream {
     // How many bytes are known.

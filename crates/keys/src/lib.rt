@@ -16,10 +16,11 @@ ghost use Rattle.numbers.specs.Told.{number};
 ghost use Rattle.pcmac.specs.Limits.{resolved};
 ghost use Rattle.keys.specs.Answer.{key_number, done_keys};
 ghost use Rattle.keys.specs.Told.{told_keys};
-ghost use Rattle.keys.specs.Promise.{UPartPromise, XKeyPromise, NoSetPromise, KeyCallPromise};
+ghost use Rattle.keys.specs.Promise.{NoSetPromise, KeyCallPromise};
 ghost use Rattle.keys.specs.Promise.{BitsFaultPromise, SetFaultPromise};
 
 use numbers::Refusal;
+pub use subkeys::{u_part, x_key};
 
 // What the order and the tag length are where 0 is given, and their highest.
 const DEFAULT_ORDER: u8 = 2;
@@ -40,7 +41,8 @@ pub struct KeySet {
     pub bits: u8,
     // The schedule of K, for E.
     pub round: [u8; 176],
-    // The parts of U_1 to U_5 and the auxiliary keys, reached by `u_part` and `x_key`.
+    // The parts of U_1 to U_5 and the auxiliary keys, reached by `u_part` and `x_key`, whose promises
+    // are of one flat array.
     pub subkeys: [u8; 304],
     // mul2(L), for a full last block.
     pub full: [u8; 16],
@@ -53,22 +55,6 @@ pub struct KeySet {
 pub struct Made {
     pub steps: usize,
     pub keys: KeySet,
-}
-
-// U_w^(j), for w from 1 to 5 and j from 1 to 3: what stands at its place, which the key call leaves
-// zero beyond the order. Outside these, zeros.
-pub fn u_part(subkeys: &[u8; 304], w: usize, j: usize) -> [u8; 16]
-    ensures { UPartPromise subkeys.now w j result }
-{
-    subkeys::u_part(subkeys, w, j)
-}
-
-// The auxiliary key K_j^xor, for j from 1 to 4: what stands at its place, which the key call leaves
-// zero beyond the order. Outside these, zeros.
-pub fn x_key(subkeys: &[u8; 304], j: usize) -> [u8; 16]
-    ensures { XKeyPromise subkeys.now j result }
-{
-    subkeys::x_key(subkeys, j)
 }
 
 // The first fault of what the key call was handed.

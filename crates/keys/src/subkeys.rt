@@ -3,7 +3,8 @@
 ghost use Rattle.std.specs.Prelude.{◌≡◌, ◌+◌, ◌≤◌, ◌<◌};
 ghost use Rattle.aes.specs.Cipher.{cipher};
 ghost use Rattle.block.specs.Block.{◌⊕◌, numbered};
-ghost use Rattle.keys.specs.Arrangement.{place_at, u_part, x_key};
+ghost use Rattle.keys.specs.Arrangement.{place_at};
+ghost use Rattle.keys.specs.Promise.{UPartPromise, XKeyPromise};
 ghost use Rattle.keys.specs.Store.{laid, stored, ran, taken};
 
 // The first place of U's parts, and that of the auxiliary keys.
@@ -28,9 +29,10 @@ fn place_at(subkeys: &[u8; 304], n: usize) -> [u8; 16]
     r
 }
 
-// U_w^(j).
-pub(crate) fn u_part(subkeys: &[u8; 304], w: usize, j: usize) -> [u8; 16]
-    ensures { result ≡ u_part subkeys.now w j }
+// U_w^(j), for w from 1 to 5 and j from 1 to 3: what stands at its place, which the key call leaves
+// zero beyond the order. Outside these, zeros.
+pub fn u_part(subkeys: &[u8; 304], w: usize, j: usize) -> [u8; 16]
+    ensures { UPartPromise subkeys.now w j result }
 {
     if (1..=5).contains(&w) && (1..=3).contains(&j) {
         place_at(subkeys, 3 * (w - 1) + (j - 1))
@@ -39,9 +41,10 @@ pub(crate) fn u_part(subkeys: &[u8; 304], w: usize, j: usize) -> [u8; 16]
     }
 }
 
-// The auxiliary key before U_(j+1).
-pub(crate) fn x_key(subkeys: &[u8; 304], j: usize) -> [u8; 16]
-    ensures { result ≡ x_key subkeys.now j }
+// The auxiliary key K_j^xor, for j from 1 to 4: what stands at its place, which the key call leaves
+// zero beyond the order. Outside these, zeros.
+pub fn x_key(subkeys: &[u8; 304], j: usize) -> [u8; 16]
+    ensures { XKeyPromise subkeys.now j result }
 {
     if (1..=4).contains(&j) {
         place_at(subkeys, AUXES + (j - 1))

@@ -3,12 +3,12 @@
 use mathlib.Core.Path.{◌≡◌, refl, ap, subst, sym, ◌∙◌}
 use mathlib.Core.Logic.{⊎_elim}
 use mathlib.Core.List.{List, [], ◌∷◌, ◌++◌}
-use Prim.Native.Nat.{ℕ, zero, suc, ◌+◌, ◌≤◌, ◌<◌}
+use Prim.Native.Nat.{ℕ, zero, suc, ◌+◌, ◌<◌}
 use native.Mathlib.Nat.{not-suc-le-zero, le_of_suc-le-suc, eq-or-lt_of_le}
 use native.Mathlib.Omega.{arith}
 use lib.Dec.{T, eqb, eqb→eq}
-use lib.ListN.{length, get_or, take, drop, length-drop}
-use lib.Seq.{ext_get_or, length-take-le, get_or-take, get_or-drop}
+use lib.ListN.{length, get_or}
+use lib.Seq.{ext_get_or}
 use Rattle.laws.specs.Agree.{agree, from, table}
 use Rattle.laws.proofs.Both.{both_left, both_right}
 
@@ -59,12 +59,3 @@ from_more {A} f i (suc n) =
 -- a table of one entry more has it at its end
 pub table_more : {A : Type 0} (f : ℕ → A) (n : ℕ) → table f (suc n) ≡ table f n ++ (f n ∷ [])
 table_more f n = from_more f 0 n ∙ ap (λ (x : ℕ). table f n ++ (f x ∷ [])) (omega arith)
-
--- n entries of a list from one on, as a table
-pub table_part : (l : List ℕ) (at n : ℕ) → at + n ≤ length l → table (λ j. get_or l (at + j) 0) n ≡ take n (drop at l)
-table_part l at n h =
-    let size : length (take n (drop at l)) ≡ n = length-take-le n (drop at l) (simp length-drop (omega arith)) in
-    ext_get_or 0 (table (λ j. get_or l (at + j) 0) n) (take n (drop at l)) (table_length (λ j. get_or l (at + j) 0) n ∙ sym size)
-    (λ i b.
-    let b' : i < n = rw (table_length (λ j. get_or l (at + j) 0) n) at b in
-    table_at (λ j. get_or l (at + j) 0) n i b' ∙ sym (get_or-take n (drop at l) i 0 b' ∙ get_or-drop at l i 0))

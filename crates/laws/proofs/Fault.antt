@@ -88,9 +88,3 @@ fault_most m (suc n) ns h l = h
 pub none_most : (m : ℕ) → first_fault [] ≤ m
 unfolding first_fault
 none_most m = omega arith
-
--- a first fault out of two, of which the second was found among others
-pub fault_before : {r a a' b : ℕ} (ns : List ℕ) → r ≡ first_fault (a ∷ b ∷ []) → a ≡ a' → b ≡ first_fault ns → r ≡ first_fault (a' ∷ ns)
-unfolding first_fault
-fault_before {r} {a} {a' = zero} {b} ns e f g = e ∙ (λ i. first_fault (f i ∷ b ∷ [])) ∙ sym (fault_last refl) ∙ g
-fault_before {r} {a} {a' = suc n} {b} ns e f g = e ∙ (λ i. first_fault (f i ∷ b ∷ []))

@@ -6,7 +6,7 @@ use Prim.Native.Nat.{ℕ, suc, ◌+◌, ◌-◌, ◌≤◌, ◌<◌}
 use native.Mathlib.Nat.{zero-add}
 use native.Mathlib.Numerals.{add-one}
 use native.Mathlib.Omega.{arith}
-use lib.ListN.{length, get_or, take, drop, set, length-drop, length-append, take-append-drop, drop_of_length-le}
+use lib.ListN.{length, get_or, take, drop, set, length-drop, length-append, take-append-drop}
 use lib.Seq.{take-suc, take_all, drop-cons, length-take-le, set_at, append_snoc}
 
 -- s is l with the first i of x's bytes over it from o on, and up to m may be copied
@@ -84,9 +84,3 @@ front_all {x} {l} {s} {m} {i} v h =
 -- all of a list
 pub front_list : {x l s : List ℕ} {m i : ℕ} → Laid x l 0 m s i → m ≤ i → length x ≡ m → s ≡ x ++ drop m l
 front_list {x} {l} {s} {m} {i} v h n = front_all v h ∙ ap (λ (y : List ℕ). y ++ drop m l) (take_all m x (omega arith))
-
--- over all of the slice
-pub front_slice : {x l s : List ℕ} {i : ℕ} → Laid x l 0 (length l) s i → length l ≤ i → s ≡ take (length l) x
-front_slice {x} {l} {s} {i} v h =
-    let end : length l ≤ length l = omega arith in
-    front_all v h ∙ ap (λ (y : List ℕ). take (length l) x ++ y) (drop_of_length-le l end) ∙ append-nil (take (length l) x)

@@ -3,11 +3,8 @@ pub mod BigEndian
 pub mod Both
 pub mod Bytes
 pub mod Cases
-pub mod Copied
-pub mod Entered
 pub mod Fault
 pub mod Filled
-pub mod Four
 pub mod Laid
 pub mod Lent
 pub mod Made

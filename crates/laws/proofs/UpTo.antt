@@ -1,27 +1,16 @@
 -- The test that a number is 1 to a highest, by its two bounds.
 -- Assumes nothing.
 use mathlib.Core.Path.{◌≡◌}
-use mathlib.Core.Bool.{true, false}
-use Prim.Native.Nat.{ℕ, ◌≤◌, ◌<◌}
+use mathlib.Core.Bool.{true}
+use Prim.Native.Nat.{ℕ, ◌≤◌}
 use lib.Dec.{leb}
-use borrow.Author.Tests.{le-leb, lt-leb, leb-true}
+use borrow.Author.Tests.{le-leb, leb-true}
 use Rattle.laws.specs.UpTo.{up_to}
 use Rattle.laws.proofs.Both.{both_holds}
 
 module _ (most n : ℕ) where
   pub up_to_is : 1 ≤ n → n ≤ most → up_to most n ≡ true
   up_to_is a b = rw (le-leb 1 n a, le-leb n most b)
-
-  -- none of these
-  pub not_none : n < 1 → up_to most n ≡ false
-  not_none h = rw (lt-leb 1 n h)
-
-  pub not_more : 1 ≤ n → most < n → up_to most n ≡ false
-  not_more a b = rw (le-leb 1 n a, lt-leb n most b)
-
-  -- not below 1, so it is for the other bound to say
-  pub up_to_rest : 1 ≤ n → leb n most ≡ up_to most n
-  up_to_rest a = rw (le-leb 1 n a)
 
 -- what the test tells
 pub record Within (most n : ℕ) : Type 0 where

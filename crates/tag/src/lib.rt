@@ -31,6 +31,8 @@ fn differences(x: [u8; 16], y: [u8; 16]) -> u8
     ensures { result ≡ differences 16 x y }
 {
     let mut gathered = 0;
+    // by the place, and not by zip: a wrong program that leaves out a byte is then refused for what it
+    // gathers, and not for its iterator's type
     for at in 0..16 {
         gathered |= x[at] ^ y[at];
     }
