@@ -1,11 +1,7 @@
 -- Parts added to a well-formed stream: one and then another are the two joined, none changes nothing, and it stays well formed.
 -- Assumes nothing.
-use mathlib.Core.Path.{◌≡◌, ap, ap₂, sym, ◌∙◌}
-use mathlib.Core.List.{List, [], ◌++◌}
-use Prim.Native.Nat.{ℕ, ◌+◌, ◌-◌, ◌*◌, ◌≤◌}
-use native.Mathlib.Nat.{add-zero}
-use native.Mathlib.Omega.{arith}
-use lib.ListN.{length, take, drop, replicate, length-append, length-drop, take-append-drop}
+use Rattle.std.specs.Prelude.{◌≡◌, List, [], ◌++◌, ℕ, ◌+◌, ◌-◌, ◌*◌, ◌≤◌, length, take, drop, replicate}
+use Rattle.std.proofs.Common.{ap, ap₂, sym, ◌∙◌, add-zero, arith, length-append, length-drop, take-append-drop}
 use lib.Seq.{drop-append_seam}
 use Rattle.block.specs.Block.{blocks, sixteen}
 use Rattle.block.proofs.Sixteen.{sixteen_length, sixteen_short, sixteen_front}

@@ -1,11 +1,7 @@
 -- Demand 1 holds.
 -- Assumes nothing.
-use mathlib.Core.Path.{◌≡◌, refl, ◌∙◌}
-use mathlib.Core.Bool.{true}
-use mathlib.Core.List.{List, [], ◌++◌}
-use Prim.Native.Nat.{ℕ, ◌+◌, ◌≤◌}
-use native.Mathlib.Omega.{arith}
-use lib.ListN.{length, drop}
+use Rattle.std.specs.Prelude.{◌≡◌, refl, true, List, [], ◌++◌, ℕ, ◌+◌, ◌≤◌, length, drop}
+use Rattle.std.proofs.Common.{◌∙◌, arith}
 use Rattle.pcmac.specs.Taggen.{step_of}
 use Rattle.keys.specs.declared.KeySet.{KeySet}
 use Rattle.keys.specs.Answer.{key_answer}
@@ -16,12 +12,12 @@ use Rattle.tag.proofs.Told.{making_leaves, checking_leaves}
 use Rattle.judge.specs.declared.Stream.{Stream}
 use Rattle.judge.specs.Stream.{started, formed}
 use Rattle.judge.proofs.Formed.{is_formed}
-use Rattle.stream.specs.declared.Added.{Added}
+use Rattle.stream.specs.Told.{Added}
 use Rattle.stream.specs.Answer.{add_answer, close_answer, close_slice, check_answer}
 use Rattle.stream.specs.Promise.{AddPromise}
 use Rattle.stream.proofs.Number.{adds_none, added_by, refused_by}
 use Rattle.message.specs.Answer.{tag_answer, tag_slice, verdict}
-use Rattle.hex_line.specs.declared.LineAnswer.{LineAnswer}
+use Rattle.hex_line.specs.Told.{LineAnswer}
 use Rattle.hex_line.specs.Line.{decoded, encoded}
 use Rattle.hex_line.specs.Answer.{decode_number, encode_number, written_answer, written_space}
 use Rattle.hex_line.specs.Promise.{Writes}

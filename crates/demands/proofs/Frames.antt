@@ -1,23 +1,16 @@
 -- The demands on the calls over frames hold.
 -- Assumes nothing.
-use mathlib.Core.Path.{◌≡◌, refl, ap, sym, ◌∙◌}
-use mathlib.Core.Logic.{⊎_elim, ◌↔◌}
-use mathlib.Core.List.{List, [], ◌++◌}
-use Prim.Native.Nat.{ℕ, ◌+◌, ◌≤◌}
-use native.Mathlib.Omega.{arith}
-use lib.ListN.{length, take, drop, length-append}
-use lib.Seq.{take_at, drop_at}
-use borrow.Author.Tests.{ne_eqb}
-use denote.Ref.{Bor}
+use Rattle.std.specs.Prelude.{◌≡◌, refl, ◌↔◌, List, [], ◌++◌, ℕ, ◌+◌, ◌≤◌, length, take, drop}
+use Rattle.std.proofs.Common.{ap, sym, ◌∙◌, ⊎_elim, arith, length-append, take_at, drop_at, ne_eqb, Bor}
 use Rattle.laws.specs.Pick.{pick}
 use Rattle.laws.proofs.Fault.{fault_found}
 use Rattle.block.specs.Bits.{bytes}
 use Rattle.pcmac.specs.Taggen.{TAGGEN}
-use Rattle.keys.specs.declared.KeyAnswer.{KeyAnswer}
+use Rattle.keys.specs.Told.{KeyAnswer}
 use Rattle.keys.specs.declared.KeySet.{KeySet}
 use Rattle.keys.specs.SetNumber.{set_number}
 use Rattle.keys.proofs.SetNumber.{set_taken}
-use Rattle.tag.specs.declared.TagAnswer.{TagAnswer}
+use Rattle.tag.specs.Told.{TagAnswer}
 use Rattle.tag.specs.Answer.{refused_tag}
 use Rattle.tag.specs.Tag.{tag_bytes}
 use Rattle.tag.proofs.Answered.{checking_is, checking_refused}

@@ -1,15 +1,12 @@
 -- The key call, by the number of its first fault; and the key set that it answers for K and L: later calls take it, and under it
 -- Algorithm 2.2 does what it does under K and L.
 -- Assumes nothing.
-use mathlib.Core.Path.{◌≡◌, refl, ap, ap₂, sym, ◌∙◌}
-use mathlib.Core.Logic.{⊎_elim}
-use mathlib.Core.List.{List}
-use Prim.Native.Nat.{ℕ}
-use lib.ListN.{length}
+use Rattle.std.specs.Prelude.{◌≡◌, refl, List, ℕ, length}
+use Rattle.std.proofs.Common.{ap, ap₂, sym, ◌∙◌, ⊎_elim}
 use Rattle.pcmac.specs.Limits.{resolved_order, resolved_tag}
 use Rattle.pcmac.specs.Taggen.{TAGGEN}
-use Rattle.keys.specs.declared.KeyAnswer.{KeyAnswer}
-use Rattle.keys.specs.Answer.{key_number, set_of, no_set, done_keys, refused_keys}
+use Rattle.keys.specs.Told.{KeyAnswer, no_set}
+use Rattle.keys.specs.Answer.{key_number, set_of, done_keys, refused_keys}
 use Rattle.keys.specs.Promise.{KeyCallPromise}
 use Rattle.keys.proofs.KeysIn.{key_tag}
 use Rattle.keys.proofs.Number.{number_faultless, answer_done, answer_refused, order_within, tag_within}

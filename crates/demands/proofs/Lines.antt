@@ -1,20 +1,12 @@
 -- The demands on the calls over lines hold.
 -- Assumes nothing.
-use mathlib.Core.Path.{◌≡◌, ap, sym}
-use mathlib.Core.Bool.{true}
-use mathlib.Core.Logic.{⊎_elim}
-use mathlib.Core.List.{List}
-use Prim.Native.Nat.{ℕ, ◌≤◌}
-use native.Mathlib.Omega.{arith}
-use lib.Dec.{eqb}
-use lib.ListN.{length, get_or, take, drop, length-drop}
-use lib.Seq.{length-take-le}
-use borrow.Author.Tests.{eq-eqb, ne_eqb, eqb-true}
+use Rattle.std.specs.Prelude.{◌≡◌, true, List, ℕ, ◌≤◌, eqb, length, get_or, take, drop}
+use Rattle.std.proofs.Common.{ap, sym, ⊎_elim, arith, length-drop, length-take-le, eq-eqb, ne_eqb, eqb-true}
 use Rattle.laws.specs.Fault.{unless}
 use Rattle.laws.proofs.Fault.{unless_holds, unless_none, none_of_two, two_none}
-use Rattle.keys.specs.declared.KeyAnswer.{KeyAnswer}
+use Rattle.keys.specs.Told.{KeyAnswer, no_set}
 use Rattle.keys.specs.declared.KeySet.{KeySet}
-use Rattle.keys.specs.Answer.{no_set, refused_keys}
+use Rattle.keys.specs.Answer.{refused_keys}
 use Rattle.keys.specs.Promise.{KeyCallPromise}
 use Rattle.hex_line.specs.Answer.{decode_number}
 use Rattle.hex_line.specs.Line.{is_hex, decoded}

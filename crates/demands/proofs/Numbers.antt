@@ -1,25 +1,19 @@
 -- Each call gives the number of its first fault, in the order in which they are judged.
 -- Assumes nothing.
-use mathlib.Core.Path.{◌≡◌, refl, ap, subst, ◌∙◌}
-use mathlib.Core.Bool.{Bool, true, false, not}
-use mathlib.Core.Logic.{inl, inr, ⊎_elim, ◌↔◌}
-use mathlib.Core.List.{List, [], ◌∷◌}
-use Prim.Native.Nat.{ℕ, ◌+◌, ◌*◌, ◌<◌}
-use native.Mathlib.Omega.{arith}
-use lib.Dec.{eqb, ltb}
-use lib.ListN.{length, get_or}
+use Rattle.std.specs.Prelude.{◌≡◌, refl, Bool, true, false, not, ◌↔◌, List, [], ◌∷◌, ℕ, ◌+◌, ◌*◌, ◌<◌, eqb, ltb, length, get_or}
+use Rattle.std.proofs.Common.{ap, subst, ◌∙◌, inl, inr, ⊎_elim, arith}
 use Rattle.laws.specs.Agree.{both}
 use Rattle.laws.specs.Fault.{unless, first_fault}
 use Rattle.laws.specs.Pick.{pick}
 use Rattle.block.specs.Bits.{bits}
 use Rattle.pcmac.specs.Taggen.{Tagged}
 use Rattle.pcmac.specs.Tagver.{accepted}
-use Rattle.keys.specs.declared.KeyAnswer.{KeyAnswer}
+use Rattle.keys.specs.Told.{KeyAnswer}
 use Rattle.keys.specs.declared.KeySet.{KeySet}
 use Rattle.keys.specs.Answer.{key_number}
 use Rattle.keys.specs.Promise.{KeyCallPromise}
 use Rattle.keys.specs.SetNumber.{bits_number, set_number}
-use Rattle.tag.specs.declared.TagAnswer.{TagAnswer}
+use Rattle.tag.specs.Told.{TagAnswer}
 use Rattle.tag.specs.Answer.{checked_tag, making_answer, checking_answer}
 use Rattle.tag.specs.Fault.{size_number}
 use Rattle.tag.specs.Tag.{tag_bytes}
@@ -28,7 +22,7 @@ use Rattle.tag.proofs.Told.{verdict_by}
 use Rattle.judge.specs.declared.Stream.{Stream}
 use Rattle.judge.specs.Stream.{formed}
 use Rattle.judge.specs.Fault.{stream_number, length_number, empty_number}
-use Rattle.stream.specs.declared.Added.{Added}
+use Rattle.stream.specs.Told.{Added}
 use Rattle.stream.specs.Answer.{add_number, close_number}
 use Rattle.stream.specs.Promise.{AddPromise}
 use Rattle.message.specs.Answer.{message_number}

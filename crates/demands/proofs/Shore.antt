@@ -1,15 +1,7 @@
 -- What the writer writes check accepts, and the other way round; and so for the two programs.
 -- Assumes nothing.
-use mathlib.Core.Path.{◌≡◌, refl, ap, ap₂, sym, ◌∙◌}
-use mathlib.Core.Bool.{Bool, true, false}
-use mathlib.Core.Logic.{⊎_elim, ◌↔◌}
-use mathlib.Core.List.{List, [], ◌∷◌, ◌++◌, append_assoc}
-use Prim.Native.Nat.{ℕ, ◌%◌, ◌≤◌}
-use native.Mathlib.Omega.{arith}
-use lib.Dec.{eqb}
-use lib.ListN.{length, take}
-use borrow.Author.Tests.{eq-eqb, ne_eqb, eqb-true}
-use denote.Ref.{Bor}
+use Rattle.std.specs.Prelude.{◌≡◌, refl, Bool, true, false, ◌↔◌, List, [], ◌∷◌, ◌++◌, ℕ, ◌%◌, ◌≤◌, eqb, length, take}
+use Rattle.std.proofs.Common.{ap, ap₂, sym, ◌∙◌, ⊎_elim, append_assoc, arith, eq-eqb, ne_eqb, eqb-true, Bor}
 use Rattle.laws.specs.Fault.{unless}
 use Rattle.laws.specs.Pick.{pick}
 use Rattle.laws.proofs.Both.{both_holds}
@@ -17,7 +9,7 @@ use Rattle.laws.proofs.Bytes.{Bytes, bytes_take}
 use Rattle.laws.proofs.Cases.{none_or_some}
 use Rattle.laws.proofs.Fault.{unless_holds, unless_none, none_of_two}
 use Rattle.keys.specs.declared.KeySet.{KeySet}
-use Rattle.keys.specs.declared.KeyAnswer.{KeyAnswer}
+use Rattle.keys.specs.Told.{KeyAnswer}
 use Rattle.keys.proofs.SetNumber.{Taken, taken_set}
 use Rattle.message.specs.Answer.{tagged}
 use Rattle.hex_line.specs.Answer.{decode_number}
@@ -41,7 +33,7 @@ use Rattle.lines.proofs.Plain.{plain_more, lines_feed}
 use Rattle.answer.specs.Line.{line_answer}
 use Rattle.answer.specs.Text.{text_of}
 use Rattle.answer.specs.Promise.{OfLinePromise}
-use Rattle.writer.specs.declared.Written.{Written}
+use Rattle.writer.specs.Told.{Written}
 use Rattle.writer.specs.Line.{frame_of, line_of, done_write}
 use Rattle.writer.specs.Promise.{WritePromise}
 use Rattle.writer.proofs.Number.{Fits, writes_none}

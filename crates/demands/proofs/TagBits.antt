@@ -1,18 +1,14 @@
 -- The tag of TAGGEN under a key set that the key call answers: how many bytes it occupies, which received tags are right, and that of
 -- bytes it is its own alone.
 -- Assumes nothing.
-use mathlib.Core.Path.{◌≡◌, refl, ap, sym, ◌∙◌}
-use mathlib.Core.Bool.{true}
-use mathlib.Core.Logic.{◌↔◌}
-use mathlib.Core.List.{List}
-use Prim.Native.Nat.{ℕ}
-use lib.ListN.{length, take}
+use Rattle.std.specs.Prelude.{◌≡◌, refl, true, ◌↔◌, List, ℕ, length, take}
+use Rattle.std.proofs.Common.{ap, sym, ◌∙◌}
 use Rattle.laws.proofs.Bytes.{Bytes}
 use Rattle.block.specs.Bits.{bits, bytes}
 use Rattle.pcmac.specs.Taggen.{TAGGEN}
 use Rattle.pcmac.specs.Tagver.{accepted}
 use Rattle.pcmac.proofs.Tagver.{accepted_parts, tagver_equal, equal_tagver}
-use Rattle.keys.specs.declared.KeyAnswer.{KeyAnswer}
+use Rattle.keys.specs.Told.{KeyAnswer}
 use Rattle.tag.specs.Tag.{tag_bytes}
 use Rattle.message.specs.Answer.{tagged}
 use Rattle.writer.proofs.TagBits.{tagged_bits, tagged_bytes, tagged_length, tagged_spelt}
