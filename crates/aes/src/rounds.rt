@@ -55,6 +55,7 @@ fn nine<'a>(sub: &'a Substitution, w: &'a [u8; 176], s0: [[u8; 4]; 4]) -> [[u8; 
 {
     let mut s = s0;
     for i in 1..10 {
+        // by a name of its own: the check does not follow an array assigned straight from a call that takes it
         let next = keyed(sub, s, round_key(w, i));
         s = next;
     }

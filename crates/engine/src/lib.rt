@@ -73,7 +73,8 @@ impl<'a> Keys<'a> {
     }
 }
 
-// One step of the chain under these keys: the value s and the block b at place w of the cycle.
+// One step of the chain under these keys: the value s and the block b at place w of the cycle. (The public calls
+// take the arrays, which their promises are of.)
 pub fn step<'a>(
     round: &'a [u8; 176],
     subkeys: &'a [u8; 304],
@@ -122,8 +123,7 @@ pub fn absorb<'a>(
     let mut r = c;
     let mut w = done % (d + 1);
     for b in blocks {
-        let next = keys.take_step(w, r, *b);
-        r = next;
+        r = keys.take_step(w, r, *b);
         w = place_after(d, w);
     }
     r
