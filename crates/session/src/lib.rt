@@ -39,7 +39,7 @@ const HAS_KEYS: u8 = 1;
 const OVER: u8 = 2;
 
 // What is kept from one part of the input to the next: what the lines so far have made of it, and the
-// line that is begun.
+// line that is begun. Memory is fixed, so the line is an array with how many characters it has, and no Vec.
 #[derive(Clone, Copy)]
 pub struct State {
     pub kind: u8,
@@ -201,7 +201,8 @@ fn take_turn(t: Stepped, part: &[u8], space: &mut [u8]) -> Stepped
 }
 
 // Where the key line has come and no line is begun, the lines that lie whole in the part, each read where it
-// lies: the keys stay where they are, and no state is made for a line.
+// lies: the keys stay where they are, and no state is made for a line. No iterator goes over them, as a line
+// feed is looked for among sixteen characters at a time.
 fn pass_whole(t: Stepped, part: &[u8], space: &mut [u8]) -> Stepped
     requires { Tidy t.state × Within t part.now space.old }
     ensures { Passed t part.now space.old result space.new }
