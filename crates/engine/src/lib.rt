@@ -123,7 +123,9 @@ pub fn absorb<'a>(
     let mut r = c;
     let mut w = done % (d + 1);
     for b in blocks {
-        r = keys.take_step(w, r, *b);
+        // by a name of its own, as in `aes`: the check does not follow the assignment straight from the call
+        let next = keys.take_step(w, r, *b);
+        r = next;
         w = place_after(d, w);
     }
     r
