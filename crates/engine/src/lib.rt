@@ -123,9 +123,7 @@ pub fn absorb<'a>(
     let mut r = c;
     let mut w = done % (d + 1);
     for b in blocks {
-        // by a name of its own, as in `aes`: the check does not follow the assignment straight from the call
-        let next = keys.take_step(w, r, *b);
-        r = next;
+        r = keys.take_step(w, r, *b);
         w = place_after(d, w);
     }
     r

@@ -14,8 +14,8 @@ returns-then-not-has_room c = sym (absorbed_not _ _ _ _ _ _ (test_fails c.has_ro
 pub loop-b-init : goal.loop-b-init
 loop-b-init c = (search rules, walking_none _ _ _ _ _ (room_is _ (test_holds c.has_room.ensures c.if-not-has_room.false)))
 
-pub take_step-next-requires : goal.take_step-next-requires
-take_step-next-requires c =
+pub take_step-r-requires : goal.take_step-r-requires
+take_step-r-requires c =
     let most = walking_room c.loop-b.invariant.1 in
     let end : c.loop-b.b-index ≤ length c.args.part.now / 16 = search rules in
     let fits : length c.args.part.now < 18446744073709551616 = search rules in
@@ -33,7 +33,7 @@ loop-b-preserved c =
     let block : get_or c.as_chunks.result.0.now i [] ≡ take 16 (drop (16 * i) part) =
     rw c.as_chunks.ensures.front (chunk_at (length part / 16) part i within)
     in
-    (v.0, walking_more v.1 within block c.take_step-next.ensures c.place_after-w.ensures)
+    (v.0, walking_more v.1 within block c.take_step-r.ensures c.place_after-w.ensures)
 
 pub returns : goal.returns
 unfolding walked
