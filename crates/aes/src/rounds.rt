@@ -7,7 +7,8 @@ ghost use Rattle.aes.specs.FourRounds.{four_rounds};
 use crate::substitution::Substitution;
 use std::array;
 
-// Row r of round key i of a schedule.
+// Row r of round key i of a schedule. (That i is below 11, and an index of a word below 44, stands at each of the few
+// that take one: a type for an index would be no plainer.)
 fn key_row(w: &[u8; 176], i: usize, r: usize) -> [u8; 4]
     requires { (i < 11) × (r < 4) }
     ensures { result ≡ word (λ c. get_or w.now (16 * i + (r + 4 * c)) 0) }
@@ -15,7 +16,7 @@ fn key_row(w: &[u8; 176], i: usize, r: usize) -> [u8; 4]
     array::from_fn(|c| w[16 * i + (r + 4 * c)])
 }
 
-// Round key i of a schedule, as a state.
+// Round key i of a schedule, as a state, row by row, as in `state`: the check knows nothing of a closure's array.
 fn round_key(w: &[u8; 176], i: usize) -> [[u8; 4]; 4]
     requires { i < 11 }
     ensures { result ≡ round_key w.now i }
@@ -71,7 +72,8 @@ pub(crate) fn encrypt<'a>(sub: &'a Substitution, w: &'a [u8; 176], block: [u8; 1
     state::store(last(sub, ninth, round_key(w, 10)))
 }
 
-// The four-round function G: a key after each of the first three rounds, and none else.
+// The four-round function G: a key after each of the first three rounds, and none else. (U1, U2 and U3 go one by one,
+// as FourRoundsPromise has them.)
 pub(crate) fn four(
     sub: &Substitution,
     u1: [u8; 16],

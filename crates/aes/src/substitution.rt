@@ -32,7 +32,7 @@ impl Substitution {
         t.map(|x| self.byte(x))
     }
 
-    // SubBytes.
+    // SubBytes, row by row: the check knows nothing of a closure's array.
     pub(crate) fn state(&self, s: [[u8; 4]; 4]) -> [[u8; 4]; 4]
         ensures { result ≡ sub_bytes s }
     {

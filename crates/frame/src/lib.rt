@@ -27,7 +27,8 @@ pub struct Judged {
     pub counts: Counts,
 }
 
-// A verdict as it is told: its number, the steps of each kind, and how long its body is.
+// A verdict as it is told: its number, which `answer::tell` takes of any value, the steps of each kind, and how long
+// its body is.
 #[derive(Clone, Copy)]
 pub struct FrameAnswer {
     pub number: u8,

@@ -19,7 +19,8 @@ pub struct Taken {
     pub steps: usize,
 }
 
-// The sixteen bytes at a place.
+// The sixteen bytes at a place, of which there are nineteen. (That stands at the three that take one: a type for a
+// place would be no plainer.)
 fn place_at(subkeys: &[u8; 304], n: usize) -> [u8; 16]
     requires { n < 19 }
     ensures { result ≡ place_at subkeys.now n }

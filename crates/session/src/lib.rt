@@ -58,7 +58,7 @@ pub struct Stepped {
     pub written: usize,
 }
 
-// What a line makes of a session, and how long the text is that was told at it.
+// What a line makes of a session, its stage as `State` has it, and how long the text is that was told at it.
 #[derive(Clone, Copy)]
 struct Told {
     stage: u8,
@@ -95,7 +95,8 @@ pub fn is_over(s: State) -> bool
     s.stage >= OVER
 }
 
-// Tells the text at a line behind the key line, at the front of a space: how long it is.
+// Tells the text at a line behind the key line, at the front of a space: how long it is. (That the space has room for
+// a text stands at the three that are lent one: a type of the lent space and the kind would be no plainer.)
 fn tell(kind: u8, keys: KeySet, line: &[u8], space: &mut [u8]) -> usize
     requires { width kind ≤ length space.old }
     ensures { Wrote (line_tell kind keys line.now) space.old 0 result space.new }

@@ -3,7 +3,7 @@ ghost use Rattle.std.specs.Prelude.{◌<◌, IfSome};
 
 use std::fmt;
 
-// A line that was read: its letter, and its sixteen bytes.
+// A line that was read: its letter, as it stands there, and its sixteen bytes.
 #[derive(Clone, Copy)]
 pub struct Line {
     pub letter: u8,
