@@ -1,8 +1,8 @@
 -- What a character stands for, and the character that stands for a value: each undoes the other, and the code reckons both. By tests over
 -- all 256 characters and over all 16 values.
 -- Assumes nothing.
-use Rattle.std.proofs.Common.{◌≡◌, refl, ap, sym, ◌∙◌, Bool, true, false, ⊎_elim, ℕ, ◌+◌, ◌*◌, ◌/◌, ◌%◌, ◌≤◌, ◌<◌, arith, bit_and, bit_or}
-use Rattle.std.proofs.Common.{T, eqb, ltb, le-leb, eq-eqb, ne_eqb, Option, None, Some}
+use Rattle.std.proofs.Common.{◌≡◌, refl, ap, sym, ◌∙◌, Bool, true, false, ⊎_elim, ℕ, ◌+◌, ◌*◌, ◌/◌, ◌%◌, ◌≤◌, ◌<◌, arith}
+use Rattle.std.proofs.Common.{T, eqb, ltb, le-leb, eq-eqb, Option, None, Some, not, ◌&&◌, ◌||◌}
 use mir.Val.{bool_byte}
 use borrow.Author.Tests.{lt-leb}
 use Rattle.laws.specs.Agree.{agree}
@@ -48,13 +48,19 @@ value_reckoned low high short all t c d =
     rw d at (agreed (reckoned low high short all) value_of 256 t c (digit_below c d))
 
 -- whether a character is strange, as the code finds it between four bounds that pass the test
-abbrev outside : ℕ → ℕ → ℕ → ℕ → ℕ → ℕ
-outside first last a f c =
-    bit_and (bit_or (bool_byte (ltb c first)) (bool_byte (ltb last c))) (bit_or (bool_byte (ltb c a)) (bool_byte (ltb f c)))
+abbrev outside : ℕ → ℕ → ℕ → ℕ → ℕ → Bool
+outside first last a f c = (ltb c first || ltb last c) && (ltb c a || ltb f c)
 
-pub strange_found : (first last a f : ℕ) → T (agree (outside first last a f) strange 256) → (c : ℕ) → c < 256
-    → bit_and (bit_or (bool_byte (ltb c first)) (bool_byte (ltb last c))) (bit_or (bool_byte (ltb c a)) (bool_byte (ltb f c))) ≡ strange c
-strange_found first last a f t c h = agreed (outside first last a f) strange 256 t c h
+same_byte : (x y : Bool) → bool_byte x ≡ bool_byte y → x ≡ y
+same_byte true true e = refl
+same_byte true false e = absurd (omega arith)
+same_byte false true e = absurd (omega arith)
+same_byte false false e = refl
+
+pub strange_found : (first last a f : ℕ) → T (agree (λ x. bool_byte (outside first last a f x)) (λ x. bool_byte (strange x)) 256)
+    → (c : ℕ) → c < 256 → outside first last a f c ≡ strange c
+strange_found first last a f t c h =
+    same_byte _ _ (agreed (λ x. bool_byte (outside first last a f x)) (λ x. bool_byte (strange x)) 256 t c h)
 
 -- a value is below 16
 pub value_small : (c : ℕ) → value_of c < 16
@@ -95,23 +101,22 @@ unfolding read_number
 read_bad (Some v) e = absurd (let z : ◌≡◌ {A = ℕ} 0 1 = cc in omega arith)
 read_bad None e = refl
 
--- the test of a character, by what was found strange in it
-pub strange_test : (c : ℕ) → eqb (strange c) 0 ≡ is_digit c
+-- what was found of a character, and so what it stands for
+pub strange_test : (c : ℕ) → not (strange c) ≡ is_digit c
 strange_test c = by (is_digit c)
   where
-    by : (t : Bool) → eqb (pick t 0 1) 0 ≡ t
+    by : (t : Bool) → not (not t) ≡ t
     by true = refl
     by false = refl
 
--- and so what it stands for
-module _ (c : ℕ) {f : ℕ} (e : f ≡ strange c) where
-  tested : is_digit c ≡ eqb f 0
-  tested = sym (strange_test c) ∙ ap (λ (x : ℕ). eqb x 0) (sym e)
+module _ (c : ℕ) {f : Bool} (e : f ≡ strange c) where
+  tested : is_digit c ≡ not f
+  tested = sym (strange_test c) ∙ ap not (sym e)
 
-  pub digit_value : f ≡ 0 → {v : ℕ} → (is_digit c ≡ true → v ≡ value_of c) → Some v ≡ digit_of c
+  pub digit_value : f ≡ false → {v : ℕ} → (is_digit c ≡ true → v ≡ value_of c) → Some v ≡ digit_of c
   digit_value z q =
-      let d : is_digit c ≡ true = tested ∙ eq-eqb f 0 z in
+      let d : is_digit c ≡ true = tested ∙ ap not z in
       ap (λ (x : ℕ). Some x) (q d) ∙ read_value_is (digit_of c) d
 
-  pub digit_bad : (f ≡ 0 → ⊥) → None ≡ digit_of c
-  digit_bad h = read_bad (digit_of c) (tested ∙ ne_eqb f 0 h)
+  pub digit_bad : f ≡ true → None ≡ digit_of c
+  digit_bad h = read_bad (digit_of c) (tested ∙ ap not h)

@@ -1,11 +1,11 @@
 -- Whether a line is pairs of digits: its faults gathered from its start, by one character more, to its end; and what it tells of each
 -- character.
 -- Assumes nothing.
-use Rattle.std.proofs.Common.{◌≡◌, ap, ap₂, sym, ◌∙◌, true, List, [], ◌∷◌, ℕ, zero, suc, ◌+◌, ◌%◌, ◌≤◌, ◌<◌, not-suc-le-zero}
-use Rattle.std.proofs.Common.{le_of_suc-le-suc, add-one, bit_or, eqb, length, get_or, take, take_all, eqb-true}
+use Rattle.std.proofs.Common.{refl, ◌≡◌, ap, ap₂, sym, ◌∙◌, true, List, [], ◌∷◌, ℕ, zero, suc, ◌+◌, ◌%◌, ◌≤◌, ◌<◌, not-suc-le-zero}
+use Rattle.std.proofs.Common.{le_of_suc-le-suc, add-one, eqb, length, get_or, take, take_all, eqb-true, Bool, false, not}
+use Rattle.std.proofs.Common.{◌||◌}
 use Rattle.laws.specs.Agree.{both}
 use Rattle.laws.proofs.Both.{both_holds, both_true, both_assoc}
-use Rattle.laws.proofs.Or.{or_test}
 use Rattle.hex_line.specs.Digit.{is_digit}
 use Rattle.hex_line.specs.Line.{all_digits, is_hex}
 use Rattle.hex_line.specs.Inner.{strange}
@@ -40,24 +40,32 @@ hex line e =
     record { even = eqb-true (length line % 2) 0 f.0; digits = λ k h. digits_at line k h f.1 }
 
 -- the faults of the first i characters are gathered, and whether the line has an odd number of them
-pub record Gathered (line : List ℕ) (faults i : ℕ) : Type 0 where
-  pub judged : eqb faults 0 ≡ both (eqb (length line % 2) 0) (all_digits (take i line))
+pub record Gathered (line : List ℕ) (faulty : Bool) (i : ℕ) : Type 0 where
+  pub judged : not faulty ≡ both (eqb (length line % 2) 0) (all_digits (take i line))
 
-pub gathered_none : (line : List ℕ) → Gathered line (length line % 2) 0
+twice : (b : Bool) → not (not b) ≡ b
+twice true = refl
+twice false = refl
+
+neither : (a b : Bool) → not (a || b) ≡ both (not a) (not b)
+neither true b = refl
+neither false b = refl
+
+pub gathered_none : (line : List ℕ) → Gathered line (not (eqb (length line % 2) 0)) 0
 unfolding all_digits
-gathered_none line = record { judged = sym (both_true (eqb (length line % 2) 0)) }
+gathered_none line = record { judged = twice (eqb (length line % 2) 0) ∙ sym (both_true (eqb (length line % 2) 0)) }
 
-pub gathered_more : {line : List ℕ} {faults i f : ℕ} → Gathered line faults i → i < length line → f ≡ strange (get_or line i 0)
-    → Gathered line (bit_or faults f) (i + 1)
-gathered_more {line} {faults} {i} {f} g h e = record {
+pub gathered_more : {line : List ℕ} {faulty f : Bool} {i : ℕ} → Gathered line faulty i → i < length line → f ≡ strange (get_or line i 0)
+    → Gathered line (faulty || f) (i + 1)
+gathered_more {line} {faulty} {f} {i} g h e = record {
   judged =
-      let one : eqb f 0 ≡ is_digit (get_or line i 0) = ap (λ (x : ℕ). eqb x 0) e ∙ strange_test (get_or line i 0) in
-      or_test faults f ∙ ap₂ both g.judged one
+      let one : not f ≡ is_digit (get_or line i 0) = ap not e ∙ strange_test (get_or line i 0) in
+      neither faulty f ∙ ap₂ both g.judged one
       ∙ both_assoc (eqb (length line % 2) 0) (all_digits (take i line)) (is_digit (get_or line i 0))
       ∙ ap (both (eqb (length line % 2) 0)) (rw add-one (sym (digits_more line i h)));
 }
 
-pub gathered_all : {line : List ℕ} {faults i : ℕ} → Gathered line faults i → length line ≤ i → eqb faults 0 ≡ is_hex line
+pub gathered_all : {line : List ℕ} {faulty : Bool} {i : ℕ} → Gathered line faulty i → length line ≤ i → not faulty ≡ is_hex line
 unfolding is_hex
-gathered_all {line} {faults} {i} g h =
+gathered_all {line} {faulty} {i} g h =
     g.judged ∙ ap (λ (l : List ℕ). both (eqb (length line % 2) 0) (all_digits l)) (take_all i line h)

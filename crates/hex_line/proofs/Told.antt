@@ -1,8 +1,7 @@
 -- What decoding and encoding tell their caller: which numbers are given, what 0 says, and what then stands in the space.
 -- Assumes nothing.
-use Rattle.std.proofs.Common.{◌≡◌, refl, ap, sym, ◌∙◌, ⊎_elim, Bool, true, false, List, ◌++◌, ℕ, ◌*◌, ◌/◌, ◌≤◌, arith, eqb, leb, length, take}
-use Rattle.std.proofs.Common.{Ok, Err}
-use Rattle.std.proofs.Common.{drop, length-append, length-drop, leb-true, eq-eqb, ne_eqb, eqb-true}
+use Rattle.std.proofs.Common.{◌≡◌, refl, ap, sym, ◌∙◌, ⊎_elim, Bool, true, false, List, ◌++◌, ℕ, ◌*◌, ◌/◌, ◌≤◌, arith, eqb, leb, length}
+use Rattle.std.proofs.Common.{take, Ok, Err, drop, length-append, length-drop, leb-true, eq-eqb, ne_eqb, eqb-true}
 use Rattle.std.proofs.Math.Seq.{take-append_seam}
 use Rattle.laws.proofs.Cases.{none_or_some}
 use Rattle.laws.specs.Fault.{unless}

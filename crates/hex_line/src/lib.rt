@@ -34,29 +34,30 @@ fn value(c: u8) -> u8
     (c % 16 + c / 64 * 9) % 16
 }
 
-// 1 where a character is neither one of 0-9 nor one of A-F, otherwise 0. Lower case is none of them.
-fn fault(c: u8) -> u8
+// Whether a character is neither one of 0-9 nor one of A-F, by `|` and `&`, which do not branch. Lower
+// case is none of them.
+fn is_strange(c: u8) -> bool
     ensures { result ≡ strange c }
 {
-    ((c < b'0') as u8 | (c > b'9') as u8) & ((c < b'A') as u8 | (c > b'F') as u8)
+    ((c < b'0') | (c > b'9')) & ((c < b'A') | (c > b'F'))
 }
 
 // What a character stands for: 0-9 and A-F, and no other.
 pub fn digit(c: u8) -> Option<u8>
     ensures { DigitPromise c result }
 {
-    if fault(c) == 0 { Some(value(c)) } else { None }
+    if is_strange(c) { None } else { Some(value(c)) }
 }
 
 // Whether a line is pairs of digits. Its faults are gathered over all of it, and tested once.
 fn is_hex(line: &[u8]) -> bool
     ensures { result ≡ is_hex line.now }
 {
-    let mut faults = (line.len() % 2) as u8;
+    let mut faulty = line.len() % 2 != 0;
     for c in line {
-        faults |= fault(*c);
+        faulty |= is_strange(*c);
     }
-    faults == 0
+    !faulty
 }
 
 // The byte of two characters that are digits, high half first.

@@ -3,10 +3,8 @@
 use Rattle.hex_line.proofs.Digits.{digit_value, digit_bad}
 use Rattle.hex_line.proofs.digit.Goals as goal
 
-pub returns-then-fault-eq0 : goal.returns-then-fault-eq0
-returns-then-fault-eq0 c =
-    digit_value c.args.c c.fault.ensures c.if-fault-eq0.true
-    c.value.ensures.1
+pub returns-then-is_strange : goal.returns-then-is_strange
+returns-then-is_strange c = digit_bad c.args.c c.is_strange.ensures c.if-is_strange.true
 
-pub returns-else-fault-eq0 : goal.returns-else-fault-eq0
-returns-else-fault-eq0 c = digit_bad c.args.c c.fault.ensures c.if-fault-eq0.false
+pub returns-else-is_strange : goal.returns-else-is_strange
+returns-else-is_strange c = digit_value c.args.c c.is_strange.ensures c.if-is_strange.false c.value.ensures.1

@@ -8,7 +8,7 @@ pub loop-c-init : goal.loop-c-init
 loop-c-init c = gathered_none _
 
 pub loop-c-preserved : goal.loop-c-preserved
-loop-c-preserved c = gathered_more c.loop-c.invariant (search rules) c.fault-faults.ensures
+loop-c-preserved c = gathered_more c.loop-c.invariant (search rules) c.is_strange-faulty.ensures
 
 pub returns : goal.returns
 returns c = gathered_all c.loop-c.invariant (search rules)

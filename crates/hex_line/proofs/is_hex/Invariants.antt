@@ -4,4 +4,4 @@ use Rattle.hex_line.proofs.Judging.{Gathered}
 use Rattle.hex_line.proofs.is_hex.Given as goal
 
 abbrev pub invariant-loop-c : goal.invariant-loop-c
-invariant-loop-c l = Gathered l.line l.faults l.c-index
+invariant-loop-c l = Gathered l.line l.faulty l.c-index

@@ -1,9 +1,9 @@
--- `hex_line::fault` meets its contract. By one test over all 256 characters.
+-- `hex_line::is_strange` meets its contract. By one test over all 256 characters.
 -- Assumes nothing.
-use Rattle.std.proofs.Common.{w8, Fits, rules}
+use Rattle.std.proofs.Common.{Fits, w8, rules}
 use Rattle.hex_line.specs.Digit.{digit_of, read_number}
 use Rattle.hex_line.proofs.Digits.{strange_found}
-use Rattle.hex_line.proofs.fault.Goals as goal
+use Rattle.hex_line.proofs.is_strange.Goals as goal
 
 pub returns : goal.returns
 unfolding digit_of read_number
