@@ -9,7 +9,8 @@ use numbers::told;
 use std::io;
 use writer::FrameLine;
 
-// Whether an answer could be written, where there was a question.
+// Whether an answer could be written, where there was a question. (The three parameters of the calls are no struct: in
+// a method the check does not cover the loans of two of its fields at once, and to take it apart first is no shorter.)
 type Answer = Option<io::Result<()>>;
 
 fn key_call(rt: &impl Print, fields: &mut Fields, room: &mut Room) -> Answer {
