@@ -12,7 +12,8 @@ returns-then-line-ne-LENGTH c = read_refused _ _ (number_length c.args.line.now 
 
 pub returns-in_err-decode : goal.returns-in_err-decode
 returns-in_err-decode c =
-    rw (handed_on c.from_residual.result c.from_residual.ensures.1) (read_unsaid c.args.line.now _ (search rules) (search rules) _ c.in_err-decode.ensures)
+    rw (handed_on c.from_residual.result c.from_residual.ensures.1)
+    (read_unsaid c.args.line.now _ (search rules) (search rules) _ c.in_err-decode.ensures)
 
 pub returns : goal.returns
 returns c = read_said c.args.line.now _ (search rules) (search rules) _ c.in_ok-decode.ensures c.said.ensures

@@ -9,7 +9,8 @@ use Rattle.message.proofs.tag.Goals as goal
 
 pub returns-in_err-fault : goal.returns-in_err-fault
 returns-in_err-fault c =
-    rw (handed_on c.from_residual.result c.from_residual.ensures.1) (making_err _ _ _ c.in_err-fault.ensures, making_stays _ _ _ c.in_err-fault.ensures _)
+    rw (handed_on c.from_residual.result c.from_residual.ensures.1)
+    (making_err _ _ _ c.in_err-fault.ensures, making_stays _ _ _ c.in_err-fault.ensures _)
 
 pub sealed-requires : goal.sealed-requires
 unfolding number

@@ -15,7 +15,8 @@ returns-in_err-set_fault c =
 pub returns-in_err-stream_fault : goal.returns-in_err-stream_fault
 unfolding add_number number
 returns-in_err-stream_fault c =
-    rw (handed_on c.from_residual-in_err-stream_fault.result c.from_residual-in_err-stream_fault.ensures.1) (first_ok _ c.in_ok-set_fault.ensures (first_err _ _ c.in_err-stream_fault.ensures))
+    rw (handed_on c.from_residual-in_err-stream_fault.result c.from_residual-in_err-stream_fault.ensures.1)
+    (first_ok _ c.in_ok-set_fault.ensures (first_err _ _ c.in_err-stream_fault.ensures))
 
 pub returns : goal.returns
 unfolding add_number number

@@ -9,7 +9,8 @@ use Rattle.stream.proofs.close.Goals as goal
 
 pub returns-in_err-close_fault : goal.returns-in_err-close_fault
 returns-in_err-close_fault c =
-    rw (handed_on c.from_residual.result c.from_residual.ensures.1) (making_err _ _ _ c.in_err-close_fault.ensures, making_stays _ _ _ c.in_err-close_fault.ensures _)
+    rw (handed_on c.from_residual.result c.from_residual.ensures.1)
+    (making_err _ _ _ c.in_err-close_fault.ensures, making_stays _ _ _ c.in_err-close_fault.ensures _)
 
 pub sealed-requires : goal.sealed-requires
 unfolding number

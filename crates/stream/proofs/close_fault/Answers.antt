@@ -15,7 +15,8 @@ returns-in_err-set_fault c =
 pub returns-in_err-size_fault : goal.returns-in_err-size_fault
 unfolding close_number number
 returns-in_err-size_fault c =
-    rw (handed_on c.from_residual-in_err-size_fault.result c.from_residual-in_err-size_fault.ensures.1) (first_ok _ c.in_ok-set_fault.ensures (first_err _ _ c.in_err-size_fault.ensures))
+    rw (handed_on c.from_residual-in_err-size_fault.result c.from_residual-in_err-size_fault.ensures.1)
+    (first_ok _ c.in_ok-set_fault.ensures (first_err _ _ c.in_err-size_fault.ensures))
 
 pub returns-in_err-stream_fault : goal.returns-in_err-stream_fault
 unfolding close_number number

@@ -11,7 +11,8 @@ use Rattle.tag.proofs.write.Goals.{After-kept-tag}
 
 pub returns-in_err-fault : goal.returns-in_err-fault
 returns-in_err-fault c =
-    rw (handed_on c.from_residual.result c.from_residual.ensures.1) (making_err _ _ _ c.in_err-fault.ensures, making_stays _ _ _ c.in_err-fault.ensures _)
+    rw (handed_on c.from_residual.result c.from_residual.ensures.1)
+    (making_err _ _ _ c.in_err-fault.ensures, making_stays _ _ _ c.in_err-fault.ensures _)
 
 -- the slice is no longer than the block of which the tag is the front
 fits : (c : After-kept-tag) → length c.args.slice.now ≤ length c.kept-tag.result
