@@ -147,10 +147,9 @@ pub fn hear(
             };
         }
     };
-    let heard = if n == 0 {
-        finish(streams, s, space)
-    } else {
-        answer(streams, s, &input[..n])
+    let heard = match n {
+        0 => finish(streams, s, space),
+        _ => answer(streams, s, &input[..n]),
     };
     match heard {
         Ok(heard) => heard,
