@@ -63,7 +63,8 @@ fn byte_at(x: [u8; 16], n: usize, part: &[u8], i: usize) -> u8
     }
 }
 
-// The first n bytes of a block with a part behind them, as far as sixteen bytes go, and then zeros.
+// The first n bytes of a block with a part behind them, as far as sixteen bytes go, and then zeros. (A block and how
+// many of its bytes, also in `pad`: JoinPromise and PadPromise are of the two.)
 pub fn join(x: [u8; 16], n: usize, part: &[u8]) -> [u8; 16]
     ensures { JoinPromise x n part.now result }
 {

@@ -87,7 +87,7 @@ pub fn step<'a>(
     Keys { round, subkeys }.step(w, s, b)
 }
 
-// The place after w in the cycle of the order d.
+// The place after w in the cycle of the order d, carried from block to block, so that none takes a division.
 fn place_after(d: usize, w: usize) -> usize
     requires { (d < 256) × (w ≤ d) }
     ensures { result ≡ (w + 1) % (d + 1) }
@@ -141,7 +141,7 @@ fn closing(full: [u8; 16], short: [u8; 16], s: [u8; 16], last: [u8; 16], n: usiz
 }
 
 // The chain after the closing step over the first n bytes of the last block: its value is what the
-// tag is cut from. A chain whose counts leave no room is handed back as it is.
+// tag is cut from. A chain whose counts leave no room is handed back as it is. (SealPromise is of the block and n.)
 pub fn seal(
     round: &[u8; 176],
     full: [u8; 16],
