@@ -1,14 +1,7 @@
 -- What one test over all numbers below n tells of each of them, and of a table.
 -- Assumes nothing.
-use mathlib.Core.Path.{◌≡◌, refl, ap, subst, sym, ◌∙◌}
-use mathlib.Core.Logic.{⊎_elim}
-use mathlib.Core.List.{List, [], ◌∷◌, ◌++◌}
-use Prim.Native.Nat.{ℕ, zero, suc, ◌+◌, ◌<◌}
-use native.Mathlib.Nat.{not-suc-le-zero, le_of_suc-le-suc, eq-or-lt_of_le}
-use native.Mathlib.Omega.{arith}
-use lib.Dec.{T, eqb, eqb→eq}
-use lib.ListN.{length, get_or}
-use lib.Seq.{ext_get_or}
+use Rattle.std.proofs.Common.{◌≡◌, refl, ap, subst, sym, ◌∙◌, ⊎_elim, List, [], ◌∷◌, ◌++◌, ℕ, zero, suc, ◌+◌, ◌<◌, not-suc-le-zero}
+use Rattle.std.proofs.Common.{le_of_suc-le-suc, eq-or-lt_of_le, arith, T, eqb, eqb→eq, length, get_or, ext_get_or}
 use Rattle.laws.specs.Agree.{agree, from, table}
 use Rattle.laws.proofs.Both.{both_left, both_right}
 

@@ -1,13 +1,9 @@
 -- A loop that copies the front of a list into a slice, from a place of it on: from its start, by one byte more, to its end.
 -- Assumes nothing.
-use mathlib.Core.Path.{◌≡◌, ap, ap₂, sym, ◌∙◌}
-use mathlib.Core.List.{List, [], ◌∷◌, ◌++◌, append-nil, append_assoc}
-use Prim.Native.Nat.{ℕ, suc, ◌+◌, ◌-◌, ◌≤◌, ◌<◌}
-use native.Mathlib.Nat.{zero-add}
-use native.Mathlib.Numerals.{add-one}
-use native.Mathlib.Omega.{arith}
-use lib.ListN.{length, get_or, take, drop, set, length-drop, length-append, take-append-drop}
-use lib.Seq.{take-suc, take_all, drop-cons, length-take-le, set_at, append_snoc}
+use Rattle.std.proofs.Common.{◌≡◌, ap, ap₂, sym, ◌∙◌, List, [], ◌∷◌, ◌++◌, append-nil, append_assoc, ℕ, suc, ◌+◌, ◌-◌, ◌≤◌, ◌<◌, zero-add}
+use Rattle.std.proofs.Common.{add-one, arith, length, get_or, take, drop, set, length-drop, length-append, take-append-drop, take-suc}
+use Rattle.std.proofs.Common.{take_all, drop-cons, length-take-le}
+use lib.Seq.{set_at, append_snoc}
 
 -- s is l with the first i of x's bytes over it from o on, and up to m may be copied
 pub record Laid (x l : List ℕ) (o m : ℕ) (s : List ℕ) (i : ℕ) : Type 0 where

@@ -1,10 +1,6 @@
 -- The test that a number is 1 to a highest, by its two bounds.
 -- Assumes nothing.
-use mathlib.Core.Path.{◌≡◌}
-use mathlib.Core.Bool.{true}
-use Prim.Native.Nat.{ℕ, ◌≤◌}
-use lib.Dec.{leb}
-use borrow.Author.Tests.{le-leb, leb-true}
+use Rattle.std.proofs.Common.{◌≡◌, true, ℕ, ◌≤◌, leb, le-leb, leb-true}
 use Rattle.laws.specs.UpTo.{up_to}
 use Rattle.laws.proofs.Both.{both_holds}
 
