@@ -1,17 +1,33 @@
 -- What opening a frame hands back, by the verdict on it.
 -- Assumes nothing.
-use Rattle.std.proofs.Common.{◌≡◌, ap, sym, ◌∙◌, List, [], ℕ, ◌≤◌, arith, length, take, eq-eqb, ne_eqb, Result, Ok, Err}
+use Rattle.std.proofs.Common.{◌≡◌, refl, ap, sym, ◌∙◌, Bool, true, false, List, [], ℕ, ◌≤◌, arith, length, take, eq-eqb, ne_eqb}
+use Rattle.std.proofs.Common.{Result, Ok, Err}
 use Rattle.std.specs.Result.{result_unwrap_or}
 use Rattle.numbers.specs.declared.Refusal.{Refusal}
 use Rattle.numbers.specs.Told.{number}
 use Rattle.numbers.proofs.Number.{not_done}
+use Rattle.laws.specs.Pick.{pick}
 use Rattle.keys.specs.declared.KeySet.{KeySet}
 use Rattle.frame.specs.declared.FrameAnswer.{FrameAnswer}
 use Rattle.frame.specs.declared.Judged.{Judged}
 use Rattle.frame.specs.Told.{told_frame}
-use Rattle.frame.specs.Frame.{body_length, body_of, frame_answer}
+use Rattle.frame.specs.Frame.{body_length, body_of, frame_answer, accepts}
 use Rattle.frame.specs.Open.{opened, opened_or, opened_at}
 use Rattle.frame.proofs.Verdict.{is_accepted}
+
+-- opening is opening or no bytes, at the frame's own place
+module _ (k : KeySet) (f : List ℕ) where
+  pub opened_or_nothing : opened_or k f [] ≡ opened k f
+  unfolding opened opened_or
+  opened_or_nothing = refl
+
+  pub opened_at_frame : (a : ℕ × ℕ) → opened_at k f a a ≡ a
+  unfolding opened_at
+  opened_at_frame a = by (accepts k f)
+    where
+      by : (t : Bool) → pick t a a ≡ a
+      by true = refl
+      by false = refl
 
 -- of an accepted frame: the body, which lies where the frame does
 module _ (k : KeySet) (f : List ℕ) (z : (frame_answer k f).number ≡ 0) where
@@ -56,9 +72,6 @@ module _ (k : KeySet) (f : List ℕ) {v : FrameAnswer} (e : v ≡ frame_answer k
   unfolding body_of
   front_is z = ap (λ (n : ℕ). take n f) (body_is z)
 
-  pub open_body : v.number ≡ 0 → take v.body f ≡ opened k f
-  open_body z = front_is z ∙ sym (opened_accepted k f (sym number_is ∙ z))
-
   pub open_none : (v.number ≡ 0 → ⊥) → [] ≡ opened k f
   open_none h = sym (opened_refused k f (λ z. h (number_is ∙ z)))
 
@@ -88,9 +101,6 @@ module _ (k : KeySet) (f : List ℕ) (j : Judged) (e : told_frame j ≡ frame_an
 
   pub judged_within : (n : ℕ) → j.body ≡ Ok n → n ≤ length f
   judged_within n q = rw (told_length n q) at (body_within k f e (told_done n q))
-
-  pub open_judged : (n : ℕ) → j.body ≡ Ok n → take n f ≡ opened k f
-  open_judged n q = rw (told_length n q) at (open_body k f e (told_done n q))
 
   pub open_refused : (why : Refusal) → j.body ≡ Err why → [] ≡ opened k f
   open_refused why q = open_none k f e (told_refused why q)

@@ -76,7 +76,8 @@ fn fault(keys: KeySet, n: usize) -> Result<(), Refusal>
     Ok(())
 }
 
-// A refusal, by its number, carries no counts and no length.
+// A refusal, by its number, carries no counts and no length. (It stays, and by any number: RefusedPromise is of any
+// number, and docs/WORDING.md names this call.)
 pub fn refused(number: u8) -> FrameAnswer
     ensures { RefusedPromise number result }
 {
@@ -108,10 +109,7 @@ pub fn judge(keys: KeySet, frame: &[u8]) -> Judged
 pub fn open<'a>(keys: KeySet, frame: &'a [u8]) -> &'a [u8]
     ensures { OpenPromise keys frame.entry result }
 {
-    match judge(keys, frame).body {
-        Ok(end) => &frame[..end],
-        Err(_) => &frame[..0],
-    }
+    open_or(keys, frame, &frame[..0])
 }
 
 // The body of an accepted frame, as that part of the frame; otherwise the table in force, whole.
