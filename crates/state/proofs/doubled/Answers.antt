@@ -1,9 +1,9 @@
 -- `state::doubled` meets its contract. What it does to a byte is {02} times the byte, by one test over all bytes; a word is four of them.
 -- Assumes nothing.
+use Rattle.std.proofs.Common.{rules}
 use Rattle.field.specs.Field.{mul}
 use Rattle.laws.proofs.Bytes.{Bytes}
 use Rattle.state.proofs.Words.{three, twice, twice_is, word_agree}
-use borrow.Author.Rules.{rules}
 use Rattle.state.proofs.doubled.Goals as goal
 
 pub returns : goal.returns
