@@ -1,7 +1,6 @@
 -- `aes::expand::begun` meets its contract: what was copied stands at the front.
 -- Assumes nothing.
-use Rattle.std.proofs.Common.{rules}
-use lib.Seq.{take_at}
+use Rattle.std.proofs.Common.{rules, take_at}
 use Rattle.aes.proofs.expand.begun.Goals as goal
 
 pub returns : goal.returns

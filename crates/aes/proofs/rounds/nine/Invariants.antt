@@ -1,3 +1,5 @@
+-- What each turn of `nine` keeps: the state is that after the rounds so far.
+-- Assumes nothing.
 use Rattle.std.proofs.Common.{◌≡◌, ◌-◌}
 use Rattle.aes.specs.Cipher.{rounds}
 use Rattle.aes.proofs.rounds.nine.Given as goal
