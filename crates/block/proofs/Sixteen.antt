@@ -1,12 +1,8 @@
 -- A list as sixteen bytes: cut where it is longer, filled with zeros where it is shorter; a block with a part behind it, byte by byte.
 -- Assumes nothing.
-use mathlib.Core.Path.{◌≡◌, ap₂, sym, ◌∙◌}
-use mathlib.Core.List.{List, ◌++◌}
-use Prim.Native.Nat.{ℕ, ◌+◌, ◌-◌, ◌≤◌, ◌<◌}
-use native.Mathlib.Omega.{arith}
-use lib.ListN.{length, get_or, take, drop, replicate, length-drop}
-use lib.ListN.{length-take, get_or-append}
-use lib.Seq.{get_or-take}
+use Rattle.std.proofs.Common.{◌≡◌, ap₂, sym, ◌∙◌, List, ◌++◌, ℕ, ◌+◌, ◌-◌, ◌≤◌, ◌<◌, arith, length, get_or, take, drop, replicate}
+use Rattle.std.proofs.Common.{length-drop, length-take, get_or-take}
+use lib.ListN.{get_or-append}
 use Rattle.laws.proofs.Filled.{filled_length, filled_at, filled_long, filled_short, filled_front, filled_all}
 use Rattle.block.specs.Block.{sixteen}
 

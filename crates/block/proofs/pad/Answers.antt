@@ -1,11 +1,7 @@
 -- `block::pad` meets its contract. By whether the block is full.
 -- Assumes nothing.
-use mathlib.Core.Path.{ap, ◌∙◌}
-use mathlib.Core.List.{List}
-use Prim.Native.Nat.{ℕ}
-use lib.ListN.{set}
+use Rattle.std.proofs.Common.{ap, ◌∙◌, List, ℕ, set, rules}
 use Rattle.block.proofs.Padding.{pad_full, pad_short}
-use borrow.Author.Rules.{rules}
 use Rattle.block.proofs.pad.Goals as goal
 
 pub returns-then-n-ge16 : goal.returns-then-n-ge16
