@@ -1,14 +1,8 @@
 -- A run of blocks and the closing step by the room that the counts have.
 -- Assumes nothing.
-use mathlib.Core.Path.{◌≡◌, ap, ◌∙◌}
-use mathlib.Core.Bool.{true, false}
-use mathlib.Core.List.{List}
-use Prim.Native.Nat.{ℕ, ◌+◌, ◌≤◌, ◌<◌}
-use native.Mathlib.Omega.{arith}
-use lib.Dec.{leb}
-use lib.ListN.{length, take}
-use lib.Seq.{length-take-le, take_all}
-use borrow.Author.Tests.{le-leb, lt-leb, leb-true, eq-eqb, ne_eqb}
+use Rattle.std.proofs.Common.{◌≡◌, ap, ◌∙◌, true, false, List, ℕ, ◌+◌, ◌≤◌, ◌<◌, arith, leb, length, take, length-take-le, take_all, le-leb}
+use Rattle.std.proofs.Common.{leb-true, eq-eqb, ne_eqb}
+use borrow.Author.Tests.{lt-leb}
 use Rattle.laws.proofs.Both.{both_holds}
 use Rattle.aes.specs.Cipher.{cipher}
 use Rattle.block.specs.Block.{Block, ◌⊕◌, padded}

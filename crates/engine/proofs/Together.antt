@@ -1,14 +1,7 @@
 -- A step put together from what its callees hand back; and that the engine's step and its closing step under a key set are the
 -- definition's.
 -- Assumes nothing.
-use mathlib.Core.Path.{◌≡◌, refl, sym, ap, ◌∙◌}
-use mathlib.Core.Logic.{⊎_elim}
-use mathlib.Core.List.{List}
-use Prim.Native.Nat.{ℕ, ◌+◌, ◌-◌, ◌≤◌, ◌<◌}
-use native.Mathlib.Nat.{eq-or-lt_of_le}
-use native.Mathlib.Omega.{arith}
-use lib.ListN.{length}
-use borrow.Author.Tests.{eq-eqb, ne_eqb}
+use Rattle.std.proofs.Common.{◌≡◌, refl, sym, ap, ◌∙◌, ⊎_elim, List, ℕ, ◌+◌, ◌-◌, ◌≤◌, ◌<◌, eq-or-lt_of_le, arith, length, eq-eqb, ne_eqb}
 use Rattle.aes.specs.Cipher.{cipher}
 use Rattle.block.specs.Block.{Block, zeros, ◌⊕◌, padded, cut}
 use Rattle.chain.specs.declared.Chain.{Chain}

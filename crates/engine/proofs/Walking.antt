@@ -1,9 +1,8 @@
 -- A run of whole blocks: from its start, by one block more, to its end.
 -- Assumes nothing.
-use Rattle.std.proofs.Common.{◌≡◌, refl, ap, sym, ◌∙◌, List, [], ℕ, zero, suc, ◌+◌, ◌-◌, ◌*◌, ◌/◌, ◌%◌, ◌≤◌, ◌<◌, arith}
-use Rattle.std.proofs.Common.{length, get_or, take, drop, mod-lt}
+use Rattle.std.proofs.Common.{◌≡◌, refl, ap, sym, ◌∙◌, List, [], ℕ, zero, suc, ◌+◌, ◌-◌, ◌*◌, ◌/◌, ◌%◌, ◌≤◌, ◌<◌, arith, length, get_or}
+use Rattle.std.proofs.Common.{take, drop, mod-lt, drop-drop}
 use native.Mathlib.Nat.{mod-add-mod}
-use lib.Seq.{drop-drop}
 use Rattle.std.specs.Simd.{first_chunks}
 use Rattle.block.specs.Block.{block_of}
 use Rattle.chain.specs.declared.Chain.{Chain}

@@ -1,3 +1,5 @@
+-- What each turn of `engine::absorb` keeps: the chain is that after the blocks so far, and the place is that of the next one.
+-- Assumes nothing.
 use Rattle.std.proofs.Common.{◌<◌}
 use Rattle.engine.specs.Engine.{chain_step}
 use Rattle.engine.proofs.Walking.{Walking}

@@ -1,7 +1,7 @@
 -- `engine::Keys::step` meets its contract. By the three kinds of step.
 -- Assumes nothing.
+use Rattle.std.proofs.Common.{rules}
 use Rattle.engine.proofs.Together.{whole_is, first_is, later_is}
-use borrow.Author.Rules.{rules}
 use Rattle.engine.proofs.Keys.step.Goals as goal
 
 pub returns-then-w-eq0 : goal.returns-then-w-eq0
