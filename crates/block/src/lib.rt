@@ -19,8 +19,8 @@ pub fn xor(x: [u8; 16], y: [u8; 16]) -> [u8; 16]
     array::from_fn(|i| x[i] ^ y[i])
 }
 
-// [i]: the number as 128 bits, big endian. (Here and in `shift` a u128 would do; but the library has no law
-// of the sixteen bytes of one, and the proof does not close.)
+// [i]: the number as 128 bits, big endian. (Here and in `shift` a u128 was tried; std has laws of the bytes of
+// smaller numbers alone, and the proof did not close.)
 pub fn numbered(i: u8) -> [u8; 16]
     ensures { NumberedPromise i result }
 {

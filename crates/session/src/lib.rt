@@ -96,7 +96,7 @@ pub fn is_over(s: State) -> bool
 }
 
 // Tells the text at a line behind the key line, at the front of a space: how long it is. (That the space has room for
-// a text stands at the three that are lent one: a type of the lent space and the kind would be no plainer.)
+// a text stands at each that is lent one: a type of the lent space and the kind would be no plainer.)
 fn tell(kind: u8, keys: KeySet, line: &[u8], space: &mut [u8]) -> usize
     requires { width kind ≤ length space.old }
     ensures { Wrote (line_tell kind keys line.now) space.old 0 result space.new }
