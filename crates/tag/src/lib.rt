@@ -72,6 +72,7 @@ pub fn size(bits: u8) -> usize
 }
 
 // The verdict where nothing was checked: why, and no steps.
+// A function, and no From as `frame` has for its verdict: docs/WORDING.md has its promise, RefusedPromise, by its name.
 pub fn unchecked(why: Refusal) -> Checked
     ensures { RefusedPromise (number_of why) (told_checked result) }
 {
