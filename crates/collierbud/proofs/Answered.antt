@@ -9,12 +9,13 @@ use Rattle.numbers.specs.declared.Refusal.TheVariants.{BadSize}
 use Rattle.numbers.specs.Told.{number, number_of}
 use Rattle.numbers.proofs.Number.{not_done}
 use Rattle.keys.specs.declared.Made.{Made}
-use Rattle.keys.specs.Told.{told_keys}
+use Rattle.keys.specs.declared.KeySet.{KeySet}
+use Rattle.keys.specs.Told.{KeyAnswer, told_keys}
 use Rattle.tag.specs.declared.Counts.{Counts}
 use Rattle.tag.specs.Told.{TagAnswer, told_made}
 use Rattle.frame.specs.declared.FrameAnswer.{FrameAnswer}
 use Rattle.collierbud.specs.Answer.{start_number, unless_refused, two_counts, three_counts}
-use Rattle.collierbud.specs.Inner.{Starts, counted}
+use Rattle.collierbud.specs.Inner.{Starts, from_start, counted}
 
 -- the fault before the call: the key call's,
 module _ (number n places : ℕ) where
@@ -54,6 +55,14 @@ module _ {A : Type 0} (answer : A) (refusal : ℕ → A) {number : ℕ} where
   pub is_answered : {r : ℕ} → r ≡ number → r ≡ 0 → answer ≡ unless_refused number answer refusal
   unfolding unless_refused
   is_answered e z = rw (eq-eqb number 0 (sym e ∙ z))
+
+-- so what is given from where the call starts is what is answered
+pub start_gives : {A : Type 0} (made : KeyAnswer) (n places : ℕ) (r : Result KeySet Refusal) → Starts made n places r
+    → (answer : KeySet → A) (refusal : ℕ → A)
+    → from_start r answer refusal ≡ unless_refused (start_number made.number n places) (answer made.keys) refusal
+unfolding from_start
+start_gives made n places (Ok k) s answer refusal = ap answer s.1 ∙ is_answered _ refusal refl s.0
+start_gives made n places (Err why) s answer refusal = is_refused _ refusal s (not_done why)
 
 -- the slice for the counts, where it has just as many places, and where not
 module _ (told l : List ℕ) where

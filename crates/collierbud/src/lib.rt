@@ -14,8 +14,7 @@ ghost use Rattle.std.specs.Prelude.{◌≡◌, length};
 ghost use Rattle.keys.specs.Told.{told_keys};
 ghost use Rattle.tag.specs.Told.{told_made, told_checked};
 ghost use Rattle.frame.specs.Told.{told_frame};
-ghost use Rattle.collierbud.specs.Answer.{tagging, tagged_space, checking, opening};
-ghost use Rattle.collierbud.specs.Inner.{Starts, counted};
+ghost use Rattle.collierbud.specs.Inner.{Starts, tagged_from, space_from, checked_from, opened_from, counted};
 ghost use Rattle.collierbud.specs.Promise.{TagPromise, CheckPromise, OpenPromise};
 
 use frame::{FrameAnswer, Judged};
@@ -35,40 +34,33 @@ fn start(made: Result<Made, Refusal>, n: usize, places: usize) -> Result<KeySet,
     }
 }
 
-// The tag of a message under the key set that was made, where there is no fault before.
+// The tag of a message under the key set, where there is no fault before.
 fn tagged<'a>(
-    made: Result<Made, Refusal>,
-    places: usize,
+    keys: Result<KeySet, Refusal>,
     message: &'a [u8],
     space: &'a mut [u8],
 ) -> Result<Counts, Refusal>
-    ensures value { told_made result ≡ tagging (told_keys made) places message.now (length space.old) }
-    ensures space_after { space.new ≡ tagged_space (told_keys made) places message.now space.old }
+    ensures value { told_made result ≡ tagged_from keys message.now (length space.old) }
+    ensures space_after { space.new ≡ space_from keys message.now space.old }
 {
-    let keys = start(made, 2, places)?;
-    message::tag(keys, message, space)
+    message::tag(keys?, message, space)
 }
 
 // The verdict on a received tag, where there is no fault before.
-fn checked<'a>(
-    made: Result<Made, Refusal>,
-    places: usize,
-    message: &'a [u8],
-    received: &'a [u8],
-) -> Checked
-    ensures { told_checked result ≡ checking (told_keys made) places message.now received.now }
+fn checked<'a>(keys: Result<KeySet, Refusal>, message: &'a [u8], received: &'a [u8]) -> Checked
+    ensures { told_checked result ≡ checked_from keys message.now received.now }
 {
-    match start(made, 2, places) {
+    match keys {
         Ok(keys) => message::verify(keys, message, received),
         Err(why) => tag::unchecked(why),
     }
 }
 
 // The verdict on a frame, where there is no fault before.
-fn opened(made: Result<Made, Refusal>, places: usize, frame: &[u8]) -> Judged
-    ensures { told_frame result ≡ opening (told_keys made) places frame.now }
+fn opened(keys: Result<KeySet, Refusal>, frame: &[u8]) -> Judged
+    ensures { told_frame result ≡ opened_from keys frame.now }
 {
-    match start(made, 3, places) {
+    match keys {
         Ok(keys) => frame::judge(keys, frame),
         Err(why) => Judged::from(why),
     }
@@ -97,8 +89,8 @@ pub extern "C" fn collierbud_tag<'a>(
     ensures { TagPromise order bits k.now l.now message.now space.old
         counts.old result space.new counts.new }
 {
-    let made = keys::key_call(order, bits, k, l);
-    let outcome = tagged(made, counts.len(), message, space);
+    let keys = start(keys::key_call(order, bits, k, l), 2, counts.len());
+    let outcome = tagged(keys, message, space);
     let taken = outcome.unwrap_or(Counts { whole: 0, four: 0 });
     put(&[taken.whole as u64, taken.four as u64], counts);
     numbers::told(outcome.and(Ok(())))
@@ -118,8 +110,8 @@ pub extern "C" fn collierbud_check<'a>(
     ensures { CheckPromise order bits k.now l.now message.now received.now
         counts.old result counts.new }
 {
-    let made = keys::key_call(order, bits, k, l);
-    let a = checked(made, counts.len(), message, received);
+    let keys = start(keys::key_call(order, bits, k, l), 2, counts.len());
+    let a = checked(keys, message, received);
     put(&[a.counts.whole as u64, a.counts.four as u64], counts);
     numbers::told(a.outcome)
 }
@@ -138,8 +130,8 @@ pub extern "C" fn collierbud_open<'a>(
     ensures { OpenPromise order bits k.now l.now frame.now counts.old
         result counts.new }
 {
-    let made = keys::key_call(order, bits, k, l);
-    let a = FrameAnswer::from(opened(made, counts.len(), frame));
+    let keys = start(keys::key_call(order, bits, k, l), 3, counts.len());
+    let a = FrameAnswer::from(opened(keys, frame));
     put(&[a.whole as u64, a.four as u64, a.body as u64], counts);
     a.number
 }

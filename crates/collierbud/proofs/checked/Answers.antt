@@ -1,19 +1,17 @@
--- `collierbud::checked` meets its contract. By the fault before the call.
+-- `collierbud::checked` meets its contract. By where the call starts from.
 -- Assumes nothing.
-use Rattle.std.proofs.Common.{◌∙◌, ap, refl}
-use Rattle.numbers.proofs.Number.{not_done}
+use Rattle.std.proofs.Common.{Result, ap, sym, ◌∙◌}
+use Rattle.numbers.specs.declared.Refusal.{Refusal}
 use Rattle.keys.specs.declared.KeySet.{KeySet}
-use Rattle.message.specs.Answer.{verdict}
-use Rattle.collierbud.specs.Answer.{checking}
-use Rattle.collierbud.proofs.Answered.{is_refused, is_answered}
+use Rattle.collierbud.specs.Inner.{from_start, checked_from}
 use Rattle.collierbud.proofs.checked.Goals as goal
 
 pub returns-in-Ok : goal.returns-in-Ok
-unfolding checking
+unfolding from_start
 returns-in-Ok c =
-    let k = c.in-Ok.ensures in
-    c.verify.ensures ∙ ap (λ (k : KeySet). verdict k c.args.message.now c.args.received.now) k.1 ∙ is_answered _ _ refl k.0
+    c.verify.ensures ∙ ap (λ (r : Result KeySet Refusal). checked_from r c.args.message.now c.args.received.now) (sym c.in-Ok.is)
 
 pub returns-in-Err : goal.returns-in-Err
-unfolding checking
-returns-in-Err c = c.unchecked.ensures ∙ is_refused _ _ c.in-Err.ensures (not_done _)
+unfolding from_start
+returns-in-Err c =
+    c.unchecked.ensures ∙ ap (λ (r : Result KeySet Refusal). checked_from r c.args.message.now c.args.received.now) (sym c.in-Err.is)

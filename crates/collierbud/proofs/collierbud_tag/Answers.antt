@@ -9,5 +9,6 @@ use Rattle.collierbud.proofs.collierbud_tag.Goals as goal
 pub returns : goal.returns
 returns c =
     let told = c.tagged-outcome.ensures in
-    tag_together _ _ _ _ c.key_call-made.ensures _ _ _ c.tagged-outcome.result told.value told.space_after
+    tag_together _ _ _ _ c.key_call.ensures c.start-keys.result _ _ _ c.tagged-outcome.result c.start-keys.ensures told.value
+    told.space_after
     (c.told.ensures ∙ ap (λ (r : Result (Unit {0}) Refusal). number r) c.and.ensures) c.unwrap_or-taken.ensures c.put.ensures

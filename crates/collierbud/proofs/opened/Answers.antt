@@ -1,19 +1,15 @@
--- `collierbud::opened` meets its contract. By the fault before the call.
+-- `collierbud::opened` meets its contract. By where the call starts from.
 -- Assumes nothing.
-use Rattle.std.proofs.Common.{◌∙◌, ap, refl}
-use Rattle.numbers.proofs.Number.{not_done}
+use Rattle.std.proofs.Common.{Result, ap, sym, ◌∙◌}
+use Rattle.numbers.specs.declared.Refusal.{Refusal}
 use Rattle.keys.specs.declared.KeySet.{KeySet}
-use Rattle.frame.specs.Frame.{frame_answer}
-use Rattle.collierbud.specs.Answer.{opening}
-use Rattle.collierbud.proofs.Answered.{is_refused, is_answered}
+use Rattle.collierbud.specs.Inner.{from_start, opened_from}
 use Rattle.collierbud.proofs.opened.Goals as goal
 
 pub returns-in-Ok : goal.returns-in-Ok
-unfolding opening
-returns-in-Ok c =
-    let k = c.in-Ok.ensures in
-    c.judge.ensures ∙ ap (λ (k : KeySet). frame_answer k c.args.frame.now) k.1 ∙ is_answered _ _ refl k.0
+unfolding from_start
+returns-in-Ok c = c.judge.ensures ∙ ap (λ (r : Result KeySet Refusal). opened_from r c.args.frame.now) (sym c.in-Ok.is)
 
 pub returns-in-Err : goal.returns-in-Err
-unfolding opening
-returns-in-Err c = c.from.ensures ∙ is_refused _ _ c.in-Err.ensures (not_done _)
+unfolding from_start
+returns-in-Err c = c.from.ensures ∙ ap (λ (r : Result KeySet Refusal). opened_from r c.args.frame.now) (sym c.in-Err.is)
