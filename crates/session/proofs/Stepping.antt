@@ -50,12 +50,9 @@ module _ {b : Stepped} {part space now : List ℕ} {t : Stepped} (v : Stepping b
   abbrev k : ℕ
   k = b.state.kind
 
-  -- the space is as long as it was, and what was written lies within it
+  -- the space is as long as it was
   pub stepping_length : length now ≡ length space
   stepping_length = moves_length turn_of (tell_of k) (width k) part v.moves
-
-  pub stepping_within : t.written ≤ length now
-  stepping_within = (passes_within k t v.moves).room
 
   module _ {most : ℕ} (w : most ≡ width k) where
     -- a turn may be taken
@@ -91,10 +88,6 @@ module _ {b : Stepped} {part space now : List ℕ} {t : Stepped} (v : Stepping b
             tidy = p.tidy;
             moves = moves_on turn_of (tell_of k) (width k) part v.moves (moves_on turn_of (tell_of k) (width k) part turned passed);
           }
-
-      -- less of the part is left
-      pub stepping_less : t.taken < length part → length part - t₂.taken < length part - t.taken
-      stepping_less h = omega (arith, u.some, p.forth)
 
 -- from the start of the part to where nothing more is taken: it is the step's outcome
 step_all : {s : State} {part space now : List ℕ} {t : Stepped} → Stepping (begins s) part space t now

@@ -16,7 +16,7 @@ use Rattle.session.specs.declared.Stepped.{Stepped}
 use Rattle.session.specs.Session.{Session, width, session_of, line_tell, turn_of, tell_of, reader_of, state_of}
 use Rattle.session.specs.Inner.{TellsLine, Tidy, Passes, Ready, Turned, Within, between, Passed}
 use Rattle.session.proofs.States.{state_kept, state_between, made_reader, made_kind, made_tidy}
-use Rattle.session.proofs.Telling.{line_most, tell_most, wrote_behind}
+use Rattle.session.proofs.Telling.{tell_most, wrote_behind}
 use Rattle.session.proofs.Whole.{tell_kept}
 
 -- what was gathered lies within its array
@@ -28,15 +28,6 @@ gathered_within line count more {g} e =
     let n : g.count ≡ length l = ap (λ (x : Gathered). x.count) e in
     let m : length g.line ≡ kept_chars = ap (λ (x : Gathered). length x.line) e ∙ laid_length l in
     omega (arith, n, m, kept_most (take count line ++ more))
-
--- what was told has room
-pub told_within : (kind : ℕ) (a : Session) (line space : List ℕ) (out : ℕ) {lent : List ℕ} {t : Told} {after : List ℕ}
-    → TellsLine kind a line lent t after → out + width kind ≤ length space → out + t.written ≤ length space
-told_within kind a line space out tells room = omega (arith, tells.text.size, tell_most kind a line)
-
-pub line_told_within : (kind : ℕ) (keys : KeySet) (line space : List ℕ) (out : ℕ) {lent : List ℕ} {n : ℕ} {after : List ℕ}
-    → Wrote (line_tell kind keys line) lent 0 n after → out + width kind ≤ length space → out + n ≤ length space
-line_told_within kind keys line space out w room = omega (arith, w.size, line_most kind keys line)
 
 module _ (u : Stepped) (part space : List ℕ) where
   -- the state that the turn begins with, and how much was taken and written before
