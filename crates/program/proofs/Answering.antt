@@ -9,7 +9,7 @@ use Rattle.session.specs.declared.State.{State}
 use Rattle.session.specs.declared.Stepped.{Stepped}
 use Rattle.session.specs.Session.{Session, width, turn_of, reader_of, state_of}
 use Rattle.session.specs.Promise.{StepPromise}
-use Rattle.session.proofs.Outcome.{taken_most, taken_some, written_within, after_length, state_after}
+use Rattle.session.proofs.Outcome.{taken_most, taken_some, written_within, state_after}
 use Rattle.session.proofs.States.{state_kept, made_reader, made_kind, made_tidy}
 use Rattle.program.specs.declared.Heard.{Heard}
 use Rattle.program.specs.Reason.{told_of, answered}
@@ -56,12 +56,9 @@ module _
     pub step_most : r.taken ≤ length rest
     step_most = taken_most state rest space p
 
-    -- what was written lies within the space, which is as long as it was
+    -- what was written lies within the space
     pub step_within : r.written ≤ length after
     step_within = written_within state rest space p
-
-    pub step_length : length after ≡ length space
-    step_length = after_length state rest space p
 
     pub answering_more : Answering s part r.state (take (length rest - r.taken) (drop r.taken rest))
     answering_more =
