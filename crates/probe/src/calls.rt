@@ -1,6 +1,8 @@
 // Makes the calls. Each function bears the name of the call that it makes, reads the fields that the call
 // has, and writes what it answers: nothing, where the fields make no question. A call that is lent a space
 // finds it filled, and the space is shown whole behind the answer, whatever was done with it.
+// (decode and encode differ in the call alone, and so do open_or and open_or_keep: each bears its call's name. Handed the
+// call as a function, one for the first two could not show the space: the call's slices have one lifetime, so it stays lent.)
 use crate::fields::{Fields, Room};
 use crate::question::Call;
 use crate::show::{self, NO_COUNTS, Part, State, Steps, told_or};

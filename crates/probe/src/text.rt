@@ -51,7 +51,8 @@ impl Line {
     }
 }
 
-// The value of a digit, 0-9 or A-F. Lower case is none here, so this is not `to_digit`.
+// The value of a digit, 0-9 or A-F. Lower case is none here, so this is not `to_digit`; nor is it `hex_line::digit`, which
+// decode rests on: this program may not read or write by the calls that it questions.
 fn value(digit: u8) -> Option<u8>
     ensures { IfSome result (λ v. v < 16) }
 {
@@ -62,7 +63,7 @@ fn value(digit: u8) -> Option<u8>
     }
 }
 
-// Bytes, shown as pairs of digits.
+// Bytes, shown as pairs of digits. (Not by `hex_line::encode`, which is questioned here.)
 #[derive(Drop)]
 pub(crate) struct Hex<'a>(pub &'a [u8]);
 
