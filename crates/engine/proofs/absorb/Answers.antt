@@ -4,7 +4,7 @@ use Rattle.std.proofs.Common.{rules, sym, ◌∙◌, ◌<◌, ◌≤◌, ◌/◌
 use Rattle.engine.specs.Engine.{walked}
 use Rattle.laws.proofs.Cases.{test_fails, test_holds}
 use Rattle.engine.proofs.Room.{room_is, absorbed_room, absorbed_not}
-use Rattle.engine.proofs.Walking.{walking_none, walking_place, walking_room}
+use Rattle.engine.proofs.Walking.{walking_none, walking_room}
 use Rattle.engine.proofs.Walking.{walking_more, walking_all, chunk_at}
 use Rattle.engine.proofs.absorb.Goals as goal
 
@@ -20,9 +20,6 @@ take_step-r-requires c =
     let end : c.loop-b.b-index ≤ length c.args.part.now / 16 = search rules in
     let fits : length c.args.part.now < 18446744073709551616 = search rules in
     (omega (arith, most.0), omega (arith, most.1))
-
-pub place_after-w-requires : goal.place_after-w-requires
-place_after-w-requires c = (c.loop-b.invariant.0, walking_place c.loop-b.invariant.1)
 
 pub loop-b-preserved : goal.loop-b-preserved
 loop-b-preserved c =

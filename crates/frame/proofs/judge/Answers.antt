@@ -1,6 +1,6 @@
 -- `frame::judge` meets its contract. By the first fault, and then by the check of the tag.
 -- Assumes nothing.
-use Rattle.std.proofs.Common.{◌≡◌, sym, ◌∙◌, length, length-take-le, arith, rules}
+use Rattle.std.proofs.Common.{◌≡◌, sym, ◌∙◌, length, arith}
 use Rattle.numbers.specs.Told.{number}
 use Rattle.numbers.proofs.Number.{not_done}
 use Rattle.frame.specs.Frame.{frame_number}
@@ -19,9 +19,6 @@ returns-in-Err c = c.from.ensures ∙ answer_refused _ _ c.in-Err.ensures (not_d
 
 pub overflow_sub-end : goal.overflow_sub-end
 overflow_sub-end c = omega (arith, c.size.ensures, (framed _ _ (none (goal.at.overflow_sub-end c).In_default)).some)
-
-pub slice_bounds-verify-end : goal.slice_bounds-verify-end
-slice_bounds-verify-end c = sym (length-take-le _ _ (search rules))
 
 pub returns : goal.returns
 returns c =

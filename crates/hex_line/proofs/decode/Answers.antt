@@ -22,9 +22,6 @@ returns-then-not-is_hex c =
     let fails = test_fails c.is_hex.ensures c.if-not-is_hex.true in
     writes_refused _ _ _ _ (number_rest _ _ (search rules) (search rules) (unless_fails 9 fails))
 
-pub fill-requires : goal.fill-requires
-fill-requires c = (test_holds c.is_hex.ensures c.if-not-is_hex.false, search rules)
-
 pub returns : goal.returns
 returns c =
     let holds = test_holds c.is_hex.ensures c.if-not-is_hex.false in

@@ -1,11 +1,8 @@
 -- `message::sealed` meets its contract. The engine's run over all blocks but the last, and its closing step.
 -- Assumes nothing.
-use Rattle.std.proofs.Common.{sym, length, length-take-le, rules}
+use Rattle.std.proofs.Common.{length}
 use Rattle.message.proofs.Whole.{last_at, message_chained, message_last, message_sealed}
 use Rattle.message.proofs.sealed.Goals as goal
-
-pub slice_bounds-absorb-end : goal.slice_bounds-absorb-end
-slice_bounds-absorb-end c = sym (length-take-le _ _ (search rules))
 
 pub returns : goal.returns
 returns c =

@@ -18,10 +18,5 @@ bounds-space-end c =
     let h = within (goal.at.bounds-space-end c).After-lay-end in
     search rules
 
-pub overflow_add-result : goal.overflow_add-result
-overflow_add-result c =
-    let h = within (goal.at.overflow_add-result c).After-lay-end in
-    search rules
-
 pub returns : goal.returns
 returns c = tells_fed _ _ _ c.if-space-lt-MOST_TEXT.false c.lay-end.ensures

@@ -14,9 +14,6 @@ use Rattle.program.proofs.run.Goals.{At-loop-left}
 room : (c : At-loop-left) → width c.loop-left.s.kind ≤ length c.loop-left.space
 room c = omega (arith, c.loop-left.invariant.0, width_most c.loop-left.s.kind)
 
-pub loop-left-init : goal.loop-left-init
-loop-left-init c = (refl, λ r q. q)
-
 pub returns-then-ne : goal.returns-then-ne
 returns-then-ne c =
     let l = c.loop-left in
@@ -30,6 +27,3 @@ loop-left-preserved c =
     let k = room (goal.at.loop-left-preserved c).At-loop-left in
     let on = differs_false the_type _ _ _ (sym c.ne.ensures ∙ c.if-ne.false) in
     (search rules, λ r q. l.invariant.1 r (runs_more _ _ _ _ _ k c.hear-heard.ensures l.left r c.loop-left-test.true on q))
-
-pub returns : goal.returns
-returns c = (c.begin-s.result, c.begin-s.ensures, c.loop-left.invariant.1 _ (runs_none _ _ (omega (arith, c.loop-left-test.false))))

@@ -12,17 +12,6 @@ fine c = record { form = c.requires.form; size = search rules }
 pub overflow_sub-n : goal.overflow_sub-n
 overflow_sub-n c = omega (arith, (formed_holds _ _ c.requires.form).most)
 
-pub past-requires : goal.past-requires
-past-requires c =
-    record {
-      extends = c.requires;
-      filled = c.join-first.ensures;
-      more = omega (arith, (formed_holds _ _ c.requires.form).most, c.if-part-n.true);
-    }
-
-pub returns-then-part-n : goal.returns-then-part-n
-returns-then-part-n c = c.past.ensures
-
 pub returns : goal.returns
 returns c =
     let holds = formed_holds _ _ c.requires.form in

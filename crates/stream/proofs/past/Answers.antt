@@ -16,9 +16,6 @@ full c = omega (arith, (formed_holds _ _ c.requires.extends.form).most, c.requir
 pub overflow_sub-room : goal.overflow_sub-room
 overflow_sub-room c = omega (arith, (formed_holds _ _ c.requires.extends.form).most)
 
-pub overflow_sub-end : goal.overflow_sub-end
-overflow_sub-end c = omega (arith, full (goal.at.overflow_sub-end c).Start)
-
 pub overflow_sub-end-2 : goal.overflow_sub-end-2
 overflow_sub-end-2 c = omega (arith, full (goal.at.overflow_sub-end-2 c).Start)
 

@@ -17,8 +17,3 @@ loop-i-preserved c =
     let at : suc (i - 1) ≡ i = omega arith in
     let key = c.round_key.ensures ∙ ap (round_key c.args.w.now) (sym at) in
     rw more (c.keyed-next.ensures ∙ ap₂ keyed_round c.loop-i.invariant key)
-
-pub returns : goal.returns
-returns c =
-    let ninth : c.loop-i.i - 1 ≡ 9 = search rules in
-    c.loop-i.invariant ∙ ap (rounds c.args.w.now c.args.s0) ninth

@@ -1,7 +1,7 @@
 -- `keys::subkeys::Source::run` meets its contract. After i turns i steps are taken; n - i turns are left.
 -- Assumes nothing.
 use Rattle.std.proofs.Common.{arith, rules}
-use Rattle.keys.proofs.Ran.{running_none, running_room, running_more, running_all}
+use Rattle.keys.proofs.Ran.{running_none, running_room, running_more}
 use Rattle.keys.proofs.subkeys.Source.run.Goals as goal
 
 pub loop-i-init : goal.loop-i-init
@@ -14,6 +14,3 @@ take_one-r-requires c =
 
 pub loop-i-preserved : goal.loop-i-preserved
 loop-i-preserved c = running_more c.loop-i.invariant (search rules) c.take_one-r.ensures
-
-pub returns : goal.returns
-returns c = running_all c.loop-i.invariant (search rules)
