@@ -10,7 +10,11 @@
 ghost use Rattle.std.specs.Prelude.{◌<◌};
 
 use keys::KeySet;
-use std::io::{Read, Write};
+
+// The file descriptors of standard input and output. (Why by `io`: crates/vectors/src/text.rt.)
+const STDIN: i32 = 0;
+
+const STDOUT: i32 = 1;
 
 // What is counted, done so many times over sixteen bytes, which begin as zeros.
 fn repeated<F: Fn(&mut [u8; 16])>(times: usize, step: F) -> [u8; 16]
@@ -79,9 +83,9 @@ fn value(digit: u8) -> usize
     }
 }
 
-fn main(rt: HostRuntime) {
+fn main() {
     let mut asked = [0u8; 3];
-    let _ = rt.stdin().read_exact(&mut asked);
+    io::read_full(STDIN, &mut asked);
     let [letter, times, order] = asked;
     let n = value(times);
     let last = match letter {
@@ -90,5 +94,5 @@ fn main(rt: HostRuntime) {
         b'E' => encrypted(4096 * n),
         _ => four(4096 * n),
     };
-    let _ = rt.stdout().write_all(&last);
+    io::write_all(STDOUT, &last);
 }

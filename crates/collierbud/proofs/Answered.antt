@@ -10,9 +10,11 @@ use Rattle.numbers.specs.Told.{number, number_of}
 use Rattle.numbers.proofs.Number.{not_done}
 use Rattle.keys.specs.declared.Made.{Made}
 use Rattle.keys.specs.declared.KeySet.{KeySet}
-use Rattle.keys.specs.Told.{KeyAnswer, told_keys}
+use Rattle.keys.specs.Told.{told_keys}
+use Rattle.keys.specs.declared.KeyAnswer.{KeyAnswer}
 use Rattle.tag.specs.declared.Counts.{Counts}
-use Rattle.tag.specs.Told.{TagAnswer, told_made}
+use Rattle.tag.specs.Told.{told_made}
+use Rattle.tag.specs.declared.TagAnswer.{TagAnswer}
 use Rattle.frame.specs.declared.FrameAnswer.{FrameAnswer}
 use Rattle.collierbud.specs.Answer.{start_number, unless_refused, two_counts, three_counts}
 use Rattle.collierbud.specs.Inner.{Starts, from_start, counted}

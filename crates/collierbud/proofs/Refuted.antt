@@ -4,7 +4,7 @@ use Rattle.std.proofs.Common.{◌≡◌, refl, ap, sym, ◌∙◌, Bool, true, f
 use Rattle.pcmac.specs.Taggen.{Tagged}
 use Rattle.keys.specs.declared.KeySet.{KeySet}
 use Rattle.keys.specs.Answer.{key_answer}
-use Rattle.tag.specs.Told.{TagAnswer}
+use Rattle.tag.specs.declared.TagAnswer.{TagAnswer}
 use Rattle.tag.specs.Answer.{refused_tag, checked_tag, making_answer, making_slice, checking_answer}
 use Rattle.tag.proofs.Answered.{making_number, making_refused, making_left, checking_number}
 use Rattle.message.specs.Answer.{tagged}

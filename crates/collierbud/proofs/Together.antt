@@ -2,14 +2,15 @@
 -- Assumes nothing.
 use Rattle.std.proofs.Common.{◌≡◌, ap, ◌∙◌, List, ℕ, length, Result, Ok, [], ◌∷◌}
 use Rattle.keys.specs.declared.KeySet.{KeySet}
-use Rattle.keys.specs.Told.{KeyAnswer}
+use Rattle.keys.specs.declared.KeyAnswer.{KeyAnswer}
 use Rattle.keys.specs.Answer.{key_answer}
 use Rattle.std.specs.Result.{result_and, result_unwrap_or}
 use Rattle.numbers.specs.declared.Refusal.{Refusal}
 use Rattle.numbers.specs.Told.{number}
 use Rattle.tag.specs.declared.Counts.{Counts}
 use Rattle.tag.specs.declared.Checked.{Checked}
-use Rattle.tag.specs.Told.{TagAnswer, told_made, told_checked}
+use Rattle.tag.specs.Told.{told_made, told_checked}
+use Rattle.tag.specs.declared.TagAnswer.{TagAnswer}
 use Rattle.tag.specs.Answer.{refused_tag}
 use Rattle.message.specs.Answer.{tag_answer, tag_slice, verdict}
 use Rattle.frame.specs.declared.FrameAnswer.{FrameAnswer}

@@ -3,9 +3,9 @@
 use Rattle.std.specs.Prelude.{List, [], ◌∷◌, ℕ, eqb, length}
 use Rattle.laws.specs.Fault.{unless, first_fault}
 use Rattle.laws.specs.Pick.{pick}
-use Rattle.keys.specs.Told.{KeyAnswer}
+use Rattle.keys.specs.declared.KeyAnswer.{KeyAnswer}
 use Rattle.numbers.specs.Numbers.{done, bad_size}
-use Rattle.tag.specs.Told.{TagAnswer}
+use Rattle.tag.specs.declared.TagAnswer.{TagAnswer}
 use Rattle.tag.specs.Answer.{refused_tag}
 use Rattle.message.specs.Answer.{tag_answer, tag_slice, verdict}
 use Rattle.frame.specs.declared.FrameAnswer.{FrameAnswer}

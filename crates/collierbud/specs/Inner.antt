@@ -5,8 +5,8 @@ use Rattle.laws.specs.Pick.{pick}
 use Rattle.numbers.specs.declared.Refusal.{Refusal}
 use Rattle.numbers.specs.Told.{number_of}
 use Rattle.keys.specs.declared.KeySet.{KeySet}
-use Rattle.keys.specs.Told.{KeyAnswer}
-use Rattle.tag.specs.Told.{TagAnswer}
+use Rattle.keys.specs.declared.KeyAnswer.{KeyAnswer}
+use Rattle.tag.specs.declared.TagAnswer.{TagAnswer}
 use Rattle.tag.specs.Answer.{refused_tag}
 use Rattle.message.specs.Answer.{tag_answer, tag_slice, verdict}
 use Rattle.frame.specs.declared.FrameAnswer.{FrameAnswer}

@@ -12,12 +12,12 @@ use Rattle.tag.proofs.Told.{making_leaves, checking_leaves}
 use Rattle.judge.specs.declared.Stream.{Stream}
 use Rattle.judge.specs.Stream.{started, formed}
 use Rattle.judge.proofs.Formed.{is_formed}
-use Rattle.stream.specs.Told.{Added}
+use Rattle.stream.specs.declared.Added.{Added}
 use Rattle.stream.specs.Answer.{add_answer, close_answer, close_slice, check_answer}
 use Rattle.stream.specs.Promise.{AddPromise}
 use Rattle.stream.proofs.Number.{adds_none, added_by, refused_by}
 use Rattle.message.specs.Answer.{tag_answer, tag_slice, verdict}
-use Rattle.hex_line.specs.Told.{LineAnswer}
+use Rattle.hex_line.specs.declared.LineAnswer.{LineAnswer}
 use Rattle.hex_line.specs.Line.{decoded, encoded}
 use Rattle.hex_line.specs.Answer.{decode_number, encode_number, written_answer, written_space}
 use Rattle.hex_line.specs.Promise.{Writes}

@@ -12,11 +12,11 @@ use Rattle.chain.specs.Stream.{settled}
 use Rattle.chain.proofs.Count.{bounded, closed}
 use Rattle.chain.proofs.View.{view_counts}
 use Rattle.pcmac.specs.Taggen.{keys_of, step_of, chained, sealed}
-use Rattle.keys.specs.Told.{KeyAnswer}
+use Rattle.keys.specs.declared.KeyAnswer.{KeyAnswer}
 use Rattle.keys.specs.declared.KeySet.{KeySet}
 use Rattle.keys.specs.KeysIn.{keys_in}
 use Rattle.keys.specs.SetNumber.{bits_number, set_number}
-use Rattle.tag.specs.Told.{TagAnswer}
+use Rattle.tag.specs.declared.TagAnswer.{TagAnswer}
 use Rattle.tag.specs.Answer.{made_tag, checked_tag}
 use Rattle.tag.specs.Fault.{size_number}
 use Rattle.tag.specs.Tag.{tag_bytes}
@@ -25,7 +25,7 @@ use Rattle.judge.specs.declared.Stream.{Stream}
 use Rattle.judge.specs.Stream.{started, formed, held_of, view_of, stream_of}
 use Rattle.judge.specs.Fault.{stream_number, empty_number}
 use Rattle.judge.proofs.Total.{total}
-use Rattle.stream.specs.Told.{Added}
+use Rattle.stream.specs.declared.Added.{Added}
 use Rattle.stream.specs.Answer.{closed as closed-stream}
 use Rattle.stream.specs.Answer.{add_number, added_to, close_number}
 use Rattle.stream.specs.Promise.{StartPromise, AddPromise, ClosePromise, CheckPromise}
@@ -38,7 +38,7 @@ use Rattle.message.proofs.Number.{tags_none}
 use Rattle.hex_line.specs.Line.{encoded}
 use Rattle.frame.specs.declared.FrameAnswer.{FrameAnswer}
 use Rattle.frame.specs.Promise.{JudgePromise}
-use Rattle.writer.specs.Told.{Written}
+use Rattle.writer.specs.declared.Written.{Written}
 use Rattle.writer.specs.Line.{frame_of, done_write}
 use Rattle.writer.specs.Promise.{WritePromise}
 use Rattle.writer.proofs.Told.{is_written}

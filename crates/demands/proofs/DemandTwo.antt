@@ -7,8 +7,8 @@ use Rattle.laws.proofs.Fault.{unless_holds}
 use Rattle.block.specs.Bits.{bits, bytes}
 use Rattle.pcmac.specs.Taggen.{TAGGEN}
 use Rattle.pcmac.specs.Tagver.{accepted}
-use Rattle.keys.specs.Told.{KeyAnswer}
-use Rattle.tag.specs.Told.{TagAnswer}
+use Rattle.keys.specs.declared.KeyAnswer.{KeyAnswer}
+use Rattle.tag.specs.declared.TagAnswer.{TagAnswer}
 use Rattle.tag.specs.Answer.{made_tag, checked_tag}
 use Rattle.tag.specs.Tag.{tag_bytes}
 use Rattle.tag.proofs.Answered.{making_is, slice_is, checking_is}
@@ -22,7 +22,7 @@ use Rattle.hex_line.proofs.Outcome.{number_rest}
 use Rattle.frame.specs.declared.FrameAnswer.{FrameAnswer}
 use Rattle.frame.specs.Frame.{body_of}
 use Rattle.answer.specs.Promise.{OfLinePromise}
-use Rattle.writer.specs.Told.{Written}
+use Rattle.writer.specs.declared.Written.{Written}
 use Rattle.writer.specs.Line.{frame_of, line_of, done_write}
 use Rattle.writer.specs.Promise.{WritePromise}
 use Rattle.writer.proofs.Number.{Fits, writes_none}

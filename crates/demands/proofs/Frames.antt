@@ -6,11 +6,11 @@ use Rattle.laws.specs.Pick.{pick}
 use Rattle.laws.proofs.Fault.{fault_found}
 use Rattle.block.specs.Bits.{bytes}
 use Rattle.pcmac.specs.Taggen.{TAGGEN}
-use Rattle.keys.specs.Told.{KeyAnswer}
+use Rattle.keys.specs.declared.KeyAnswer.{KeyAnswer}
 use Rattle.keys.specs.declared.KeySet.{KeySet}
 use Rattle.keys.specs.SetNumber.{set_number}
 use Rattle.keys.proofs.SetNumber.{set_taken}
-use Rattle.tag.specs.Told.{TagAnswer}
+use Rattle.tag.specs.declared.TagAnswer.{TagAnswer}
 use Rattle.tag.specs.Answer.{refused_tag}
 use Rattle.tag.specs.Tag.{tag_bytes}
 use Rattle.tag.proofs.Answered.{checking_is, checking_refused}

@@ -5,7 +5,8 @@ use Rattle.std.specs.Prelude.{◌≡◌, refl, List, ℕ, length}
 use Rattle.std.proofs.Common.{ap, ap₂, sym, ◌∙◌, ⊎_elim}
 use Rattle.pcmac.specs.Limits.{resolved_order, resolved_tag}
 use Rattle.pcmac.specs.Taggen.{TAGGEN}
-use Rattle.keys.specs.Told.{KeyAnswer, no_set}
+use Rattle.keys.specs.Told.{no_set}
+use Rattle.keys.specs.declared.KeyAnswer.{KeyAnswer}
 use Rattle.keys.specs.Answer.{key_number, set_of, done_keys, refused_keys}
 use Rattle.keys.specs.Promise.{KeyCallPromise}
 use Rattle.keys.proofs.KeysIn.{key_tag}

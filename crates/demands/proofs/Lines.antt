@@ -4,7 +4,8 @@ use Rattle.std.specs.Prelude.{◌≡◌, true, List, ℕ, ◌≤◌, eqb, length
 use Rattle.std.proofs.Common.{ap, sym, ⊎_elim, arith, length-drop, length-take-le, eq-eqb, ne_eqb, eqb-true}
 use Rattle.laws.specs.Fault.{unless}
 use Rattle.laws.proofs.Fault.{unless_holds, unless_none, none_of_two, two_none}
-use Rattle.keys.specs.Told.{KeyAnswer, no_set}
+use Rattle.keys.specs.Told.{no_set}
+use Rattle.keys.specs.declared.KeyAnswer.{KeyAnswer}
 use Rattle.keys.specs.declared.KeySet.{KeySet}
 use Rattle.keys.specs.Answer.{refused_keys}
 use Rattle.keys.specs.Promise.{KeyCallPromise}

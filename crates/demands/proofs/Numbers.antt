@@ -8,12 +8,12 @@ use Rattle.laws.specs.Pick.{pick}
 use Rattle.block.specs.Bits.{bits}
 use Rattle.pcmac.specs.Taggen.{Tagged}
 use Rattle.pcmac.specs.Tagver.{accepted}
-use Rattle.keys.specs.Told.{KeyAnswer}
+use Rattle.keys.specs.declared.KeyAnswer.{KeyAnswer}
 use Rattle.keys.specs.declared.KeySet.{KeySet}
 use Rattle.keys.specs.Answer.{key_number}
 use Rattle.keys.specs.Promise.{KeyCallPromise}
 use Rattle.keys.specs.SetNumber.{bits_number, set_number}
-use Rattle.tag.specs.Told.{TagAnswer}
+use Rattle.tag.specs.declared.TagAnswer.{TagAnswer}
 use Rattle.tag.specs.Answer.{checked_tag, making_answer, checking_answer}
 use Rattle.tag.specs.Fault.{size_number}
 use Rattle.tag.specs.Tag.{tag_bytes}
@@ -22,7 +22,7 @@ use Rattle.tag.proofs.Told.{verdict_by}
 use Rattle.judge.specs.declared.Stream.{Stream}
 use Rattle.judge.specs.Stream.{formed}
 use Rattle.judge.specs.Fault.{stream_number, length_number, empty_number}
-use Rattle.stream.specs.Told.{Added}
+use Rattle.stream.specs.declared.Added.{Added}
 use Rattle.stream.specs.Answer.{add_number, close_number}
 use Rattle.stream.specs.Promise.{AddPromise}
 use Rattle.message.specs.Answer.{message_number}

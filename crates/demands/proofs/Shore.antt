@@ -9,7 +9,7 @@ use Rattle.laws.proofs.Bytes.{Bytes, bytes_take}
 use Rattle.laws.proofs.Cases.{none_or_some}
 use Rattle.laws.proofs.Fault.{unless_holds, unless_none, none_of_two}
 use Rattle.keys.specs.declared.KeySet.{KeySet}
-use Rattle.keys.specs.Told.{KeyAnswer}
+use Rattle.keys.specs.declared.KeyAnswer.{KeyAnswer}
 use Rattle.keys.proofs.SetNumber.{Taken, taken_set}
 use Rattle.message.specs.Answer.{tagged}
 use Rattle.hex_line.specs.Answer.{decode_number}
@@ -33,7 +33,7 @@ use Rattle.lines.proofs.Plain.{plain_more, lines_feed}
 use Rattle.answer.specs.Line.{line_answer}
 use Rattle.answer.specs.Text.{text_of}
 use Rattle.answer.specs.Promise.{OfLinePromise}
-use Rattle.writer.specs.Told.{Written}
+use Rattle.writer.specs.declared.Written.{Written}
 use Rattle.writer.specs.Line.{frame_of, line_of, done_write}
 use Rattle.writer.specs.Promise.{WritePromise}
 use Rattle.writer.proofs.Number.{Fits, writes_none}

@@ -8,7 +8,7 @@ use Rattle.block.specs.Bits.{bits, bytes}
 use Rattle.pcmac.specs.Taggen.{TAGGEN}
 use Rattle.pcmac.specs.Tagver.{accepted}
 use Rattle.pcmac.proofs.Tagver.{accepted_parts, tagver_equal, equal_tagver}
-use Rattle.keys.specs.Told.{KeyAnswer}
+use Rattle.keys.specs.declared.KeyAnswer.{KeyAnswer}
 use Rattle.tag.specs.Tag.{tag_bytes}
 use Rattle.message.specs.Answer.{tagged}
 use Rattle.writer.proofs.TagBits.{tagged_bits, tagged_bytes, tagged_length, tagged_spelt}

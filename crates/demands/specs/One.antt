@@ -5,17 +5,18 @@
 use Rattle.std.specs.Prelude.{◌≡◌, Bool, true, List, [], ℕ, length, take}
 use Rattle.std.specs.Borrow.{Bor}
 use Rattle.keys.specs.declared.KeySet.{KeySet}
-use Rattle.keys.specs.Told.{KeyAnswer, no_set}
+use Rattle.keys.specs.Told.{no_set}
+use Rattle.keys.specs.declared.KeyAnswer.{KeyAnswer}
 use Rattle.keys.specs.Promise.{KeyCallPromise}
 use Rattle.keys.specs.SetNumber.{set_number}
-use Rattle.tag.specs.Told.{TagAnswer}
+use Rattle.tag.specs.declared.TagAnswer.{TagAnswer}
 use Rattle.judge.specs.declared.Stream.{Stream}
 use Rattle.judge.specs.Stream.{formed}
-use Rattle.stream.specs.Told.{Added}
+use Rattle.stream.specs.declared.Added.{Added}
 use Rattle.stream.specs.Promise.{StartPromise, AddPromise, ClosePromise, CheckPromise}
 use Rattle.message.specs.Answer.{tagged}
 use Rattle.message.specs.Promise.{TagPromise, VerifyPromise}
-use Rattle.hex_line.specs.Told.{LineAnswer}
+use Rattle.hex_line.specs.declared.LineAnswer.{LineAnswer}
 use Rattle.hex_line.specs.Promise.{DecodePromise, EncodePromise}
 use Rattle.keyline.specs.Promise.{ReadPromise}
 use Rattle.frame.specs.declared.FrameAnswer.{FrameAnswer}
@@ -24,7 +25,7 @@ use Rattle.bridge.specs.Promise.{OpenOrKeepPromise}
 use Rattle.session.specs.declared.State.{State}
 use Rattle.session.specs.declared.Stepped.{Stepped}
 use Rattle.answer.specs.Promise.{OfLinePromise, TellPromise}
-use Rattle.writer.specs.Told.{Written}
+use Rattle.writer.specs.declared.Written.{Written}
 use Rattle.writer.specs.Promise.{WritePromise}
 use Rattle.outgoing.specs.Promise as outgoing
 use Rattle.session.specs.Promise.{WidthPromise, BeginPromise, IsOverPromise, StepPromise, FinishPromise}

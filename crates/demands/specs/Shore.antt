@@ -6,7 +6,7 @@ use Rattle.std.specs.Prelude.{◌≡◌, List, ◌∷◌, ◌++◌, ℕ, ◌≤�
 use Rattle.std.specs.Borrow.{Bor}
 use Rattle.laws.specs.Pick.{pick}
 use Rattle.keys.specs.declared.KeySet.{KeySet}
-use Rattle.keys.specs.Told.{KeyAnswer}
+use Rattle.keys.specs.declared.KeyAnswer.{KeyAnswer}
 use Rattle.message.specs.Answer.{tagged}
 use Rattle.hex_line.specs.Line.{decoded}
 use Rattle.keyline.specs.Promise.{ReadPromise}
@@ -16,7 +16,7 @@ use Rattle.frame.specs.Promise.{JudgePromise, OpenPromise}
 use Rattle.lines.specs.Lines.{line_feed, lines}
 use Rattle.answer.specs.Text.{text_of}
 use Rattle.answer.specs.Promise.{OfLinePromise}
-use Rattle.writer.specs.Told.{Written}
+use Rattle.writer.specs.declared.Written.{Written}
 use Rattle.writer.specs.Promise.{WritePromise}
 use Rattle.outgoing.specs.Text.{sent_line}
 use Rattle.session.specs.declared.State.{State}

@@ -5,12 +5,12 @@ use Rattle.block.specs.Bits.{bits, bytes}
 use Rattle.pcmac.specs.Taggen.{TAGGEN}
 use Rattle.pcmac.specs.Tagver.{TAGVER}
 use Rattle.keys.specs.declared.KeySet.{KeySet}
-use Rattle.keys.specs.Told.{KeyAnswer}
+use Rattle.keys.specs.declared.KeyAnswer.{KeyAnswer}
 use Rattle.keys.specs.Promise.{KeyCallPromise}
 use Rattle.tag.specs.Tag.{tag_bytes}
 use Rattle.hex_line.specs.Line.{encoded}
 use Rattle.judge.specs.declared.Stream.{Stream}
-use Rattle.stream.specs.Told.{Added}
+use Rattle.stream.specs.declared.Added.{Added}
 use Rattle.stream.specs.Promise.{AddPromise}
 
 -- the key call's answer for an order, a tag length, K and L, where it is done: 0 may have been handed in for either number

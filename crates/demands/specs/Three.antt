@@ -7,17 +7,17 @@ use Rattle.laws.specs.Joined.{joined}
 use Rattle.laws.specs.Up.{up}
 use Rattle.pcmac.specs.Taggen.{keys_of, chained}
 use Rattle.keys.specs.declared.KeySet.{KeySet}
-use Rattle.keys.specs.Told.{KeyAnswer}
-use Rattle.tag.specs.Told.{TagAnswer}
+use Rattle.keys.specs.declared.KeyAnswer.{KeyAnswer}
+use Rattle.tag.specs.declared.TagAnswer.{TagAnswer}
 use Rattle.tag.specs.Tag.{tag_bytes}
 use Rattle.judge.specs.declared.Stream.{Stream}
-use Rattle.stream.specs.Told.{Added}
+use Rattle.stream.specs.declared.Added.{Added}
 use Rattle.stream.specs.Promise.{StartPromise, AddPromise, ClosePromise, CheckPromise}
 use Rattle.message.specs.Promise.{TagPromise, VerifyPromise}
 use Rattle.hex_line.specs.Line.{encoded}
 use Rattle.frame.specs.declared.FrameAnswer.{FrameAnswer}
 use Rattle.frame.specs.Promise.{JudgePromise}
-use Rattle.writer.specs.Told.{Written}
+use Rattle.writer.specs.declared.Written.{Written}
 use Rattle.writer.specs.Promise.{WritePromise}
 use Rattle.session.specs.Output.{check_output, send_output}
 use Rattle.session.specs.Session.{send_kind}

@@ -10,9 +10,9 @@ use Rattle.block.specs.Bits.{bytes}
 use Rattle.pcmac.specs.Limits.{resolved_order, resolved_tag}
 use Rattle.pcmac.specs.Taggen.{TAGGEN}
 use Rattle.keys.specs.declared.KeySet.{KeySet}
-use Rattle.keys.specs.Told.{KeyAnswer}
+use Rattle.keys.specs.declared.KeyAnswer.{KeyAnswer}
 use Rattle.keys.specs.Promise.{KeyCallPromise}
-use Rattle.tag.specs.Told.{TagAnswer}
+use Rattle.tag.specs.declared.TagAnswer.{TagAnswer}
 use Rattle.tag.specs.Tag.{tag_bytes}
 use Rattle.judge.specs.declared.Stream.{Stream}
 use Rattle.stream.specs.Promise.{StartPromise, CheckPromise}
@@ -23,7 +23,7 @@ use Rattle.frame.specs.declared.FrameAnswer.{FrameAnswer}
 use Rattle.frame.specs.Promise.{JudgePromise, OpenPromise, OpenOrPromise}
 use Rattle.bridge.specs.Promise.{OpenOrKeepPromise}
 use Rattle.answer.specs.Promise.{OfLinePromise}
-use Rattle.writer.specs.Told.{Written}
+use Rattle.writer.specs.declared.Written.{Written}
 use Rattle.writer.specs.Promise.{WritePromise}
 use Rattle.demands.specs.Numbers.{Verdict}
 use Rattle.demands.specs.Shore.{ShoreAndShip}

@@ -3,7 +3,7 @@
 -- Numbers.antt says.)
 -- Assumes nothing.
 use Rattle.std.specs.Prelude.{◌≡◌, List, ◌∷◌, ℕ}
-use Rattle.keys.specs.Told.{KeyAnswer}
+use Rattle.keys.specs.declared.KeyAnswer.{KeyAnswer}
 use Rattle.keys.specs.Promise.{KeyCallPromise}
 use Rattle.keyline.specs.Promise.{ReadPromise}
 use Rattle.session.specs.Output.{check_output, send_output}

@@ -12,7 +12,11 @@ ghost use Rattle.std.specs.Prelude.{◌≤◌};
 use frame::FrameAnswer;
 use keys::KeySet;
 use numbers::told;
-use std::io::{Read, Write};
+
+// The file descriptors of standard input and output. (Why by `io`: crates/vectors/src/text.rt.)
+const STDIN: i32 = 0;
+
+const STDOUT: i32 = 1;
 
 // What is tagged.
 const BODY: [u8; 100] = [5; 100];
@@ -67,13 +71,13 @@ fn answer_of(call: u8, set: KeySet, tag: [u8; 16]) -> [u8; 2] {
 }
 
 // Of an input that is too short the rest is zeros.
-fn main(rt: HostRuntime) {
+fn main() {
     let mut asked = [0u8; 18];
-    let _ = rt.stdin().read_exact(&mut asked);
+    io::read_full(STDIN, &mut asked);
     let [call, bits, ..] = asked;
     let set = set_for(usize::from(bits));
     let answer = answer_of(call, set, spoilt(set, block::read(&asked, 2)));
     let mut text = [b'\n'; 5];
     let _ = hex_line::encode(&answer, &mut text);
-    let _ = rt.stdout().write_all(&text);
+    io::write_all(STDOUT, &text);
 }

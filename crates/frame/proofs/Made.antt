@@ -9,7 +9,8 @@ use Rattle.numbers.specs.declared.Refusal.{Refusal}
 use Rattle.numbers.specs.Told.{number, number_of}
 use Rattle.numbers.proofs.Number.{not_done}
 use Rattle.tag.specs.declared.Checked.{Checked}
-use Rattle.tag.specs.Told.{TagAnswer, told_checked}
+use Rattle.tag.specs.Told.{told_checked}
+use Rattle.tag.specs.declared.TagAnswer.{TagAnswer}
 use Rattle.tag.specs.Answer.{checked_tag}
 use Rattle.tag.specs.Tag.{tag_bytes}
 use Rattle.tag.proofs.Answered.{checking_is}

@@ -7,7 +7,7 @@ use Rattle.laws.specs.Pick.{pick}
 use Rattle.keys.specs.declared.KeySet.{KeySet}
 use Rattle.numbers.specs.Numbers.{done, bad_length}
 use Rattle.keys.specs.SetNumber.{set_number}
-use Rattle.tag.specs.Told.{TagAnswer}
+use Rattle.tag.specs.declared.TagAnswer.{TagAnswer}
 use Rattle.tag.specs.Answer.{checked_tag}
 use Rattle.tag.specs.Tag.{tag_bytes}
 use Rattle.message.specs.Answer.{tagged}

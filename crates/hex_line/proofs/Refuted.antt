@@ -5,7 +5,7 @@ use Rattle.std.proofs.Common.{drop, get_or-append-add, get_or-drop, le-leb, None
 use Rattle.std.proofs.Math.ListN.{get_or-append}
 use borrow.Author.Tests.{lt-leb}
 use Rattle.laws.proofs.Fault.{unless_fails}
-use Rattle.hex_line.specs.Told.{LineAnswer}
+use Rattle.hex_line.specs.declared.LineAnswer.{LineAnswer}
 use Rattle.hex_line.specs.Digit.{digit_of, read_value, is_digit, character_of}
 use Rattle.hex_line.specs.Line.{is_hex, byte_at, decoded, encoded}
 use Rattle.hex_line.specs.Answer.{encode_number}

@@ -9,7 +9,8 @@ use Rattle.laws.specs.Pick.{pick}
 use Rattle.laws.proofs.Fault.{unless_none, none_of_three}
 use Rattle.numbers.specs.declared.Refusal.{Refusal}
 use Rattle.numbers.proofs.Number.{not_done}
-use Rattle.hex_line.specs.Told.{LineAnswer, told_line}
+use Rattle.hex_line.specs.Told.{told_line}
+use Rattle.hex_line.specs.declared.LineAnswer.{LineAnswer}
 use Rattle.hex_line.specs.Line.{is_hex, decoded, encoded}
 use Rattle.hex_line.specs.Answer.{decode_number, encode_number, refused_line, written_answer, written_space}
 use Rattle.hex_line.specs.Promise.{Writes, DecodePromise, EncodePromise}

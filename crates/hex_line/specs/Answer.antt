@@ -4,7 +4,7 @@ use Rattle.std.specs.Prelude.{List, [], ◌∷◌, ◌++◌, ℕ, ◌*◌, eqb, 
 use Rattle.laws.specs.Fault.{unless, first_fault}
 use Rattle.laws.specs.Pick.{pick}
 use Rattle.numbers.specs.Numbers.{done, bad_size, bad_length, not_hex}
-use Rattle.hex_line.specs.Told.{LineAnswer}
+use Rattle.hex_line.specs.declared.LineAnswer.{LineAnswer}
 use Rattle.hex_line.specs.Line.{is_hex}
 
 -- the most characters of a line that is decoded

@@ -2,7 +2,7 @@
 -- Assumes nothing.
 use Rattle.std.specs.Prelude.{◌≡◌, Option, List, ℕ, length}
 use Rattle.laws.proofs.Once.{once}
-use Rattle.hex_line.specs.Told.{LineAnswer}
+use Rattle.hex_line.specs.declared.LineAnswer.{LineAnswer}
 use Rattle.hex_line.specs.Digit.{digit_of}
 use Rattle.hex_line.specs.Line.{decoded, encoded}
 use Rattle.hex_line.specs.Answer.{decode_number, encode_number, written_answer, written_space}

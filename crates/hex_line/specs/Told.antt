@@ -3,13 +3,10 @@
 use Rattle.std.specs.Prelude.{◌≡◌, Result, Ok, Err, ℕ}
 use Rattle.std.proofs.Common.{ap, sym}
 use Rattle.numbers.specs.declared.Refusal.{Refusal}
+use Rattle.hex_line.specs.declared.LineAnswer.{LineAnswer}
 use Rattle.numbers.specs.Numbers.{done}
 use Rattle.numbers.specs.Told.{number_of}
 use Rattle.numbers.proofs.Number.{not_done, number_of_once}
-
-pub record LineAnswer : Type 0 where
-  pub number : ℕ
-  pub written : ℕ
 
 -- 0 and how much was written; a refusal, which has written nothing, by its number
 unfoldable pub told_line : Result ℕ Refusal → LineAnswer

@@ -26,6 +26,28 @@ const LONGEST: usize = 510;
 // The least bytes of the space for it, which are the most that it decodes to.
 const SPACE: usize = 255;
 
+// What decoding a line or encoding bytes hands back, as it is told: its number, and how many bytes or characters it
+// wrote, none where it refuses.
+#[derive(Clone, Copy)]
+pub struct LineAnswer {
+    pub number: u8,
+    pub written: usize,
+}
+
+impl From<Result<usize, Refusal>> for LineAnswer {
+    ghost from_gives = { λ outcome answer. answer ≡ told_line outcome };
+
+    fn from(outcome: Result<usize, Refusal>) -> LineAnswer {
+        match outcome {
+            Ok(written) => LineAnswer { number: 0, written },
+            Err(why) => LineAnswer {
+                number: numbers::told(Err(why)),
+                written: 0,
+            },
+        }
+    }
+}
+
 // The value of a character that is a digit: the low half of 0-9 is its value, and that of A-F, which
 // stand behind 64, falls nine short.
 fn value(c: u8) -> u8

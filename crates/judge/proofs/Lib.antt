@@ -1,5 +1,5 @@
 pub mod Faultless
-pub mod First
+pub mod HandedOn
 pub mod Formed
 pub mod Held
 pub mod Limit

@@ -30,10 +30,10 @@ EmptyFaultPromise mayBeEmpty n r = r ≡ empty_number mayBeEmpty n
 pub empty_fault_once : (mayBeEmpty : Bool) (n r r' : ℕ) → EmptyFaultPromise mayBeEmpty n r → EmptyFaultPromise mayBeEmpty n r' → r ≡ r'
 empty_fault_once mayBeEmpty n r r' p q = once p q
 
--- of two faults, the second judged where there is no first: the first of two numbers that is not 0, and 0 where both are
+-- first hands back the first of two numbers that is not 0, and 0 where both are
 abbrev pub FirstPromise : ℕ → ℕ → ℕ → Type 0
 FirstPromise a b r = r ≡ first_fault (a ∷ b ∷ [])
 
--- any two such answers are equal
+-- any two answers that first may give are equal
 pub first_once : (a b r r' : ℕ) → FirstPromise a b r → FirstPromise a b r' → r ≡ r'
 first_once a b r r' p q = once p q

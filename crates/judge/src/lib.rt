@@ -11,7 +11,7 @@ ghost use Rattle.numbers.specs.Told.{number, number_of};
 ghost use Rattle.chain.specs.Count.{whole_for, four_for};
 ghost use Rattle.chain.specs.Stream.{settled};
 ghost use Rattle.judge.specs.Stream.{chain_of, held_for, formed};
-ghost use Rattle.judge.specs.Promise.{StreamFaultPromise, LengthFaultPromise, EmptyFaultPromise};
+ghost use Rattle.judge.specs.Promise.{StreamFaultPromise, LengthFaultPromise, EmptyFaultPromise, FirstPromise};
 
 use chain::Chain;
 use numbers::Refusal;
@@ -130,4 +130,11 @@ pub fn empty_fault(allowed: bool, n: usize) -> Result<(), Refusal>
     ensures { EmptyFaultPromise allowed n (number result) }
 {
     unless(allowed || n >= 1, Refusal::NoBytes)
+}
+
+// The first of two numbers of faults, in the order in which they are judged: what `?` does with the faults themselves.
+pub fn first(a: u8, b: u8) -> u8
+    ensures { FirstPromise a b result }
+{
+    if a != 0 { a } else { b }
 }

@@ -10,9 +10,11 @@ use Rattle.block.proofs.Sixteen.{sixteen_whole}
 use Rattle.numbers.specs.declared.Refusal.{Refusal}
 use Rattle.numbers.specs.Told.{number_of}
 use Rattle.numbers.proofs.Number.{not_done}
-use Rattle.keys.specs.Told.{KeyAnswer, told_keys}
+use Rattle.keys.specs.Told.{told_keys}
+use Rattle.keys.specs.declared.KeyAnswer.{KeyAnswer}
 use Rattle.keys.specs.Answer.{refused_keys, key_answer}
-use Rattle.hex_line.specs.Told.{LineAnswer, told_line}
+use Rattle.hex_line.specs.Told.{told_line}
+use Rattle.hex_line.specs.declared.LineAnswer.{LineAnswer}
 use Rattle.hex_line.specs.Answer.{decode_number}
 use Rattle.hex_line.specs.Line.{decoded}
 use Rattle.hex_line.specs.Promise.{DecodePromise}

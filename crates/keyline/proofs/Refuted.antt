@@ -3,7 +3,8 @@
 use Rattle.std.proofs.Common.{◌≡◌, ap, sym, ◌∙◌, List, ℕ, length}
 use Rattle.numbers.specs.declared.Refusal.TheVariants.{BadLength}
 use Rattle.numbers.specs.Told.{number_of}
-use Rattle.keys.specs.Told.{KeyAnswer, told_keys}
+use Rattle.keys.specs.Told.{told_keys}
+use Rattle.keys.specs.declared.KeyAnswer.{KeyAnswer}
 use Rattle.keyline.specs.Promise.{ReadPromise}
 use Rattle.keyline.proofs.Answered.{number_length, read_refused}
 

@@ -3,7 +3,7 @@
 use Rattle.std.specs.Prelude.{List, [], ◌∷◌, ℕ, eqb, length, get_or, take, drop}
 use Rattle.laws.specs.Fault.{unless, first_fault}
 use Rattle.laws.specs.Pick.{pick}
-use Rattle.keys.specs.Told.{KeyAnswer}
+use Rattle.keys.specs.declared.KeyAnswer.{KeyAnswer}
 use Rattle.numbers.specs.Numbers.{done, bad_length, not_hex}
 use Rattle.keys.specs.Answer.{refused_keys, key_answer}
 use Rattle.hex_line.specs.Line.{is_hex, decoded}

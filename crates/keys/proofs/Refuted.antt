@@ -5,7 +5,7 @@ use Rattle.laws.proofs.UpTo.{up_to_is}
 use Rattle.block.specs.Bits.{binary, bits, value, bytes}
 use Rattle.block.specs.Block.{Block, zeros, ◌⊕◌, shifted, msb, reduction, mul2}
 use Rattle.pcmac.specs.Limits.{resolved, resolved_order, resolved_tag}
-use Rattle.keys.specs.Told.{KeyAnswer}
+use Rattle.keys.specs.declared.KeyAnswer.{KeyAnswer}
 use Rattle.keys.specs.declared.KeySet.{KeySet}
 use Rattle.keys.specs.Answer.{set_of, done_keys, refused_keys}
 use Rattle.keys.specs.Arrangement.{place_at}

@@ -8,7 +8,7 @@ use Rattle.block.specs.Block.{mul2}
 use Rattle.pcmac.specs.Limits.{highest_order, longest_tag, resolved_order, resolved_tag}
 use Rattle.pcmac.specs.Keysch.{KEYSCH}
 use Rattle.keys.specs.declared.KeySet.{KeySet}
-use Rattle.keys.specs.Told.{KeyAnswer}
+use Rattle.keys.specs.declared.KeyAnswer.{KeyAnswer}
 pub use Rattle.keys.specs.Told.{no_set}
 use Rattle.keys.specs.Arrangement.{arranged}
 use Rattle.numbers.specs.Numbers.{done, bad_order, bad_tag_length, bad_size}

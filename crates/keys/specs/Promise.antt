@@ -3,7 +3,8 @@
 use Rattle.std.specs.Prelude.{◌≡◌, List, ℕ}
 use Rattle.laws.proofs.Once.{once}
 use Rattle.block.specs.Block.{Block}
-use Rattle.keys.specs.Told.{KeyAnswer, no_set}
+use Rattle.keys.specs.Told.{no_set}
+use Rattle.keys.specs.declared.KeyAnswer.{KeyAnswer}
 use Rattle.keys.specs.declared.KeySet.{KeySet}
 use Rattle.keys.specs.Arrangement.{u_part, x_key}
 use Rattle.keys.specs.Answer.{refused_keys, key_answer}
@@ -25,11 +26,11 @@ XKeyPromise subkeys j r = r ≡ x_key subkeys j
 pub x_key_once : (subkeys : List ℕ) (j : ℕ) (r r' : Block) → XKeyPromise subkeys j r → XKeyPromise subkeys j r' → r ≡ r'
 x_key_once subkeys j r r' p q = once p q
 
--- a refusal is told by its number, no steps, and the set of zeros
+-- refused hands back its number, no steps, and the set of zeros
 abbrev pub RefusedPromise : ℕ → KeyAnswer → Type 0
 RefusedPromise number r = r ≡ refused_keys number
 
--- any two such answers are equal
+-- any two answers that refused may give are equal
 pub refused_once : (number : ℕ) (r r' : KeyAnswer) → RefusedPromise number r → RefusedPromise number r' → r ≡ r'
 refused_once number r r' p q = once p q
 

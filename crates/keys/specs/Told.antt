@@ -1,21 +1,16 @@
 -- What the key call hands back, told as the outline tells it: its number, the steps that it took, and the key set, of zeros where it
 -- refuses.
 -- Assumes nothing.
-use Rattle.std.specs.Prelude.{◌≡◌, Result, Ok, Err, ℕ, replicate}
+use Rattle.std.specs.Prelude.{◌≡◌, Result, Ok, Err, replicate}
 use Rattle.std.proofs.Common.{ap, sym}
 use Rattle.numbers.specs.Numbers.{done}
 use Rattle.numbers.specs.Told.{number_of}
 use Rattle.numbers.proofs.Number.{not_done, number_of_once}
 use Rattle.numbers.specs.declared.Refusal.{Refusal}
 use Rattle.block.specs.Block.{zeros}
+use Rattle.keys.specs.declared.KeyAnswer.{KeyAnswer}
 use Rattle.keys.specs.declared.KeySet.{KeySet}
 use Rattle.keys.specs.declared.Made.{Made}
-
--- the number, the whole-cipher steps that were taken, and the key set
-pub record KeyAnswer : Type 0 where
-  pub number : ℕ
-  pub steps : ℕ
-  pub keys : KeySet
 
 -- the set of zeros
 abbrev pub no_set : KeySet

@@ -16,7 +16,7 @@ ghost use Rattle.numbers.specs.Told.{number};
 ghost use Rattle.pcmac.specs.Limits.{resolved};
 ghost use Rattle.keys.specs.Answer.{key_number, done_keys};
 ghost use Rattle.keys.specs.Told.{told_keys};
-ghost use Rattle.keys.specs.Promise.{NoSetPromise, KeyCallPromise};
+ghost use Rattle.keys.specs.Promise.{NoSetPromise, RefusedPromise, KeyCallPromise};
 ghost use Rattle.keys.specs.Promise.{BitsFaultPromise, SetFaultPromise};
 
 use numbers::Refusal;
@@ -57,6 +57,30 @@ pub struct Made {
     pub keys: KeySet,
 }
 
+// What the key call makes or why it refuses, as it is told: its number, the steps, and the key set, which is of zeros
+// where it refuses.
+#[derive(Clone, Copy)]
+pub struct KeyAnswer {
+    pub number: u8,
+    pub steps: usize,
+    pub keys: KeySet,
+}
+
+impl From<Result<Made, Refusal>> for KeyAnswer {
+    ghost from_gives = { λ outcome answer. answer ≡ told_keys outcome };
+
+    fn from(outcome: Result<Made, Refusal>) -> KeyAnswer {
+        match outcome {
+            Ok(made) => KeyAnswer {
+                number: 0,
+                steps: made.steps,
+                keys: made.keys,
+            },
+            Err(why) => refused(numbers::told(Err(why))),
+        }
+    }
+}
+
 // The first fault of what the key call was handed.
 fn fault(order: usize, bits: usize, k: usize, l: usize) -> Result<(), Refusal>
     ensures { number result ≡ key_number order bits k l }
@@ -91,6 +115,17 @@ pub fn no_set() -> KeySet
         subkeys: [0; 304],
         full: [0; 16],
         short: [0; 16],
+    }
+}
+
+// A refusal, by its number, which may be any, is told with no steps and the set of zeros.
+pub fn refused(number: u8) -> KeyAnswer
+    ensures { RefusedPromise number result }
+{
+    KeyAnswer {
+        number,
+        steps: 0,
+        keys: no_set(),
     }
 }
 

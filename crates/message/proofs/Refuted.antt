@@ -7,7 +7,7 @@ use Rattle.pcmac.specs.Taggen.{sealed, taggen}
 use Rattle.pcmac.proofs.Tagver.{accepted_equal, spare_set}
 use Rattle.keys.specs.declared.KeySet.{KeySet}
 use Rattle.keys.specs.SetNumber.{set_number}
-use Rattle.tag.specs.Told.{TagAnswer}
+use Rattle.tag.specs.declared.TagAnswer.{TagAnswer}
 use Rattle.tag.specs.Tag.{tag_bytes}
 use Rattle.tag.proofs.Answered.{making_number}
 use Rattle.tag.proofs.Tagged.{cut_within}

@@ -6,7 +6,7 @@ use Rattle.pcmac.specs.Taggen.{Tagged, taggen}
 use Rattle.keys.specs.declared.KeySet.{KeySet}
 use Rattle.keys.specs.KeysIn.{keys_in}
 use Rattle.keys.specs.SetNumber.{set_number}
-use Rattle.tag.specs.Told.{TagAnswer}
+use Rattle.tag.specs.declared.TagAnswer.{TagAnswer}
 use Rattle.tag.specs.Answer.{making_answer, making_slice, checking_answer}
 use Rattle.tag.specs.Fault.{size_number}
 use Rattle.judge.specs.Fault.{length_number, empty_number}

@@ -3,7 +3,7 @@
 use Rattle.std.specs.Prelude.{◌≡◌, List, ℕ, length}
 use Rattle.laws.proofs.Once.{once}
 use Rattle.keys.specs.declared.KeySet.{KeySet}
-use Rattle.tag.specs.Told.{TagAnswer}
+use Rattle.tag.specs.declared.TagAnswer.{TagAnswer}
 use Rattle.message.specs.Answer.{tag_answer, tag_slice, verdict}
 
 -- tag hands back 0 and the counts, and the slice then holds the tag; or the number of the first fault, no counts, and the slice holds

@@ -14,7 +14,7 @@ ghost use Rattle.message.specs.Promise.{TagPromise, VerifyPromise};
 use chain::Chain;
 use keys::KeySet;
 use numbers::Refusal;
-pub use tag::{Checked, Counts};
+pub use tag::{Checked, Counts, TagAnswer};
 
 // The first fault of a message of m bytes and a tag slice of n. A message of PC-MAC-AES may not be
 // empty.

@@ -8,7 +8,7 @@ use Rattle.laws.proofs.Cases.{none_or_some}
 use Rattle.block.specs.Bits.{bytes}
 use Rattle.keys.specs.declared.KeySet.{KeySet}
 use Rattle.message.specs.Answer.{tagged}
-use Rattle.hex_line.specs.Told.{LineAnswer}
+use Rattle.hex_line.specs.declared.LineAnswer.{LineAnswer}
 use Rattle.hex_line.specs.Answer.{decode_number, written_space}
 use Rattle.hex_line.specs.Line.{decoded}
 use Rattle.hex_line.specs.Promise.{DecodePromise}
@@ -17,7 +17,7 @@ use Rattle.hex_line.proofs.Told.{is_written, least_number}
 use Rattle.lines.specs.Lines.{line_feed}
 use Rattle.lines.specs.Moves.{Wrote}
 use Rattle.lines.proofs.Telling.{text_tells, fed_behind, wrote_none, wrote_front, front_wrote}
-use Rattle.writer.specs.Told.{Written}
+use Rattle.writer.specs.declared.Written.{Written}
 use Rattle.writer.specs.Line.{least_room, write_number, frame_of, line_of, refused_write, done_write, write_answer}
 use Rattle.writer.specs.Promise.{WritePromise}
 use Rattle.writer.proofs.Number.{Fits, writes_told, writes_none}

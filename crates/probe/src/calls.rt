@@ -1,168 +1,165 @@
 // Makes the calls. Each function bears the name of the call that it makes, reads the fields that the call
-// has, and writes what it answers: nothing, where the fields make no question. A call that is lent a space
+// has, and puts what it answers: nothing, where the fields make no question. A call that is lent a space
 // finds it filled, and the space is shown whole behind the answer, whatever was done with it.
 // (decode and encode differ in the call alone, and so do open_or and open_or_keep: each bears its call's name. Handed the
 // call as a function, one for the first two could not show the space: the call's slices have one lifetime, so it stays lent.)
 use crate::fields::{Fields, Room};
 use crate::question::Call;
-use crate::show::{self, NO_COUNTS, Part, State, Steps, told_or};
-use crate::text::Hex;
-use numbers::told;
-use std::io;
-use writer::FrameLine;
+use crate::text::Text;
 
-// Whether an answer could be written, where there was a question. (The three parameters of the calls are no struct: in
-// a method the check does not cover the loans of two of its fields at once, and to take it apart first is no shorter.)
-type Answer = Option<io::Result<()>>;
+// Whether there was a question. (The three parameters of the calls are no struct: in a method the check does not cover
+// the loans of two of its fields at once, and to take it apart first is no shorter.)
+type Answer = Option<()>;
 
-fn key_call(rt: &impl Print, fields: &mut Fields, room: &mut Room) -> Answer {
+fn key_call(fields: &mut Fields, room: &mut Room, text: &mut Text) -> Answer {
     let order = fields.number()?;
     let bits = fields.number()?;
     let k = fields.bytes(&mut room.first)?;
     let l = fields.bytes(&mut room.second)?;
     fields.end()?;
-    Some(show::key_outcome(rt, keys::key_call(order, bits, k, l)))
+    text.key_answer(keys::key_call(order, bits, k, l).into());
+    Some(())
 }
 
-fn read(rt: &impl Print, fields: &mut Fields, room: &mut Room) -> Answer {
+fn read(fields: &mut Fields, room: &mut Room, text: &mut Text) -> Answer {
     let line = fields.bytes(&mut room.first)?;
     fields.end()?;
-    Some(show::key_outcome(rt, keyline::read(line)))
+    text.key_answer(keyline::read(line).into());
+    Some(())
 }
 
-fn start(rt: &impl Print, fields: &mut Fields) -> Answer {
+fn start(fields: &mut Fields, text: &mut Text) -> Answer {
     fields.end()?;
-    Some(println!(rt; "{}", State(&stream::start())))
+    text.stream(&stream::start());
+    Some(())
 }
 
-fn add(rt: &impl Print, fields: &mut Fields, room: &mut Room) -> Answer {
+fn add(fields: &mut Fields, room: &mut Room, text: &mut Text) -> Answer {
     let set = fields.key_set()?;
     let s = fields.stream()?;
     let part = fields.bytes(&mut room.first)?;
     fields.end()?;
-    let (number, state) = told_or(stream::add(set, s, part), s);
-    Some(println!(rt; "{number:02X}{}", State(&state)))
+    text.added((s, stream::add(set, s, part)).into());
+    Some(())
 }
 
-fn close(rt: &impl Print, fields: &mut Fields, room: &mut Room) -> Answer {
+fn close(fields: &mut Fields, room: &mut Room, text: &mut Text) -> Answer {
     let set = fields.key_set()?;
     let s = fields.stream()?;
     let space = fields.space(&mut room.space)?;
     fields.end()?;
-    let (number, counts) = told_or(stream::close(set, s, space), NO_COUNTS);
-    Some(println!(rt; "{number:02X}{}{}", Steps(counts), Hex(space)))
+    text.tag_answer(stream::close(set, s, space).into());
+    text.bytes(space);
+    Some(())
 }
 
-fn check(rt: &impl Print, fields: &mut Fields, room: &mut Room) -> Answer {
+fn check(fields: &mut Fields, room: &mut Room, text: &mut Text) -> Answer {
     let set = fields.key_set()?;
     let s = fields.stream()?;
     let received = fields.bytes(&mut room.first)?;
     fields.end()?;
-    let a = stream::check(set, s, received);
-    Some(println!(rt; "{:02X}{}", told(a.outcome), Steps(a.counts)))
+    text.tag_answer(stream::check(set, s, received).into());
+    Some(())
 }
 
-fn tag(rt: &impl Print, fields: &mut Fields, room: &mut Room) -> Answer {
+fn tag(fields: &mut Fields, room: &mut Room, text: &mut Text) -> Answer {
     let set = fields.key_set()?;
     let message = fields.bytes(&mut room.first)?;
     let space = fields.space(&mut room.space)?;
     fields.end()?;
-    let (number, counts) = told_or(message::tag(set, message, space), NO_COUNTS);
-    Some(println!(rt; "{number:02X}{}{}", Steps(counts), Hex(space)))
+    text.tag_answer(message::tag(set, message, space).into());
+    text.bytes(space);
+    Some(())
 }
 
-fn verify(rt: &impl Print, fields: &mut Fields, room: &mut Room) -> Answer {
+fn verify(fields: &mut Fields, room: &mut Room, text: &mut Text) -> Answer {
     let set = fields.key_set()?;
     let message = fields.bytes(&mut room.first)?;
     let received = fields.bytes(&mut room.second)?;
     fields.end()?;
-    let a = message::verify(set, message, received);
-    Some(println!(rt; "{:02X}{}", told(a.outcome), Steps(a.counts)))
+    text.tag_answer(message::verify(set, message, received).into());
+    Some(())
 }
 
-fn decode(rt: &impl Print, fields: &mut Fields, room: &mut Room) -> Answer {
+fn decode(fields: &mut Fields, room: &mut Room, text: &mut Text) -> Answer {
     let line = fields.bytes(&mut room.first)?;
     let space = fields.space(&mut room.space)?;
     fields.end()?;
-    let (number, written) = told_or(hex_line::decode(line, space), 0);
-    Some(println!(rt; "{number:02X}{written:016X}{}", Hex(space)))
+    text.line_answer(hex_line::decode(line, space).into());
+    text.bytes(space);
+    Some(())
 }
 
-fn judge(rt: &impl Print, fields: &mut Fields, room: &mut Room) -> Answer {
+fn judge(fields: &mut Fields, room: &mut Room, text: &mut Text) -> Answer {
     let set = fields.key_set()?;
     let frame = fields.bytes(&mut room.first)?;
     fields.end()?;
-    let a = frame::judge(set, frame);
-    let (number, length) = told_or(a.body, 0);
-    Some(println!(rt; "{number:02X}{}{length:016X}", Steps(a.counts)))
+    text.frame_answer(frame::judge(set, frame).into());
+    Some(())
 }
 
-fn open(rt: &impl Print, fields: &mut Fields, room: &mut Room) -> Answer {
+fn open(fields: &mut Fields, room: &mut Room, text: &mut Text) -> Answer {
     let set = fields.key_set()?;
     let frame = fields.bytes(&mut room.first)?;
     fields.end()?;
-    Some(println!(rt; "{}", Part(frame::open(set, frame))))
+    text.part(frame::open(set, frame));
+    Some(())
 }
 
-fn open_or(rt: &impl Print, fields: &mut Fields, room: &mut Room) -> Answer {
-    let set = fields.key_set()?;
-    let frame = fields.bytes(&mut room.first)?;
-    let table = fields.bytes(&mut room.second)?;
-    fields.end()?;
-    Some(println!(rt; "{}", Part(frame::open_or(set, frame, table))))
-}
-
-fn open_or_keep(rt: &impl Print, fields: &mut Fields, room: &mut Room) -> Answer {
+fn open_or(fields: &mut Fields, room: &mut Room, text: &mut Text) -> Answer {
     let set = fields.key_set()?;
     let frame = fields.bytes(&mut room.first)?;
     let table = fields.bytes(&mut room.second)?;
     fields.end()?;
-    Some(println!(rt; "{}", Part(bridge::open_or_keep(set, frame, table))))
+    text.part(frame::open_or(set, frame, table));
+    Some(())
 }
 
-fn encode(rt: &impl Print, fields: &mut Fields, room: &mut Room) -> Answer {
+fn open_or_keep(fields: &mut Fields, room: &mut Room, text: &mut Text) -> Answer {
+    let set = fields.key_set()?;
+    let frame = fields.bytes(&mut room.first)?;
+    let table = fields.bytes(&mut room.second)?;
+    fields.end()?;
+    text.part(bridge::open_or_keep(set, frame, table));
+    Some(())
+}
+
+fn encode(fields: &mut Fields, room: &mut Room, text: &mut Text) -> Answer {
     let bytes = fields.bytes(&mut room.first)?;
     let space = fields.space(&mut room.space)?;
     fields.end()?;
-    let (number, written) = told_or(hex_line::encode(bytes, space), 0);
-    Some(println!(rt; "{number:02X}{written:016X}{}", Hex(space)))
+    text.line_answer(hex_line::encode(bytes, space).into());
+    text.bytes(space);
+    Some(())
 }
 
-fn write(rt: &impl Print, fields: &mut Fields, room: &mut Room) -> Answer {
+fn write(fields: &mut Fields, room: &mut Room, text: &mut Text) -> Answer {
     let set = fields.key_set()?;
     let body = fields.bytes(&mut room.first)?;
     let space = fields.space(&mut room.space)?;
     fields.end()?;
-    let nothing = FrameLine {
-        counts: NO_COUNTS,
-        length: 0,
-    };
-    let (number, a) = told_or(writer::write(set, body, space), nothing);
-    Some(println!(rt;
-        "{number:02X}{}{:016X}{}",
-        Steps(a.counts),
-        a.length,
-        Hex(space)
-    ))
+    text.written(writer::write(set, body, space).into());
+    text.bytes(space);
+    Some(())
 }
 
-// Makes the call that a question asks for, and writes what it answers.
-pub(crate) fn made(rt: &impl Print, fields: &mut Fields, room: &mut Room) -> Answer {
+// Makes the call that a question asks for, and puts what it answers.
+pub(crate) fn made(fields: &mut Fields, room: &mut Room, text: &mut Text) -> Answer {
     match Call::try_from(fields.byte()?).ok()? {
-        Call::KeyCall => key_call(rt, fields, room),
-        Call::Read => read(rt, fields, room),
-        Call::Start => start(rt, fields),
-        Call::Add => add(rt, fields, room),
-        Call::Close => close(rt, fields, room),
-        Call::Check => check(rt, fields, room),
-        Call::Tag => tag(rt, fields, room),
-        Call::Verify => verify(rt, fields, room),
-        Call::Decode => decode(rt, fields, room),
-        Call::Judge => judge(rt, fields, room),
-        Call::Open => open(rt, fields, room),
-        Call::OpenOr => open_or(rt, fields, room),
-        Call::OpenOrKeep => open_or_keep(rt, fields, room),
-        Call::Encode => encode(rt, fields, room),
-        Call::Write => write(rt, fields, room),
+        Call::KeyCall => key_call(fields, room, text),
+        Call::Read => read(fields, room, text),
+        Call::Start => start(fields, text),
+        Call::Add => add(fields, room, text),
+        Call::Close => close(fields, room, text),
+        Call::Check => check(fields, room, text),
+        Call::Tag => tag(fields, room, text),
+        Call::Verify => verify(fields, room, text),
+        Call::Decode => decode(fields, room, text),
+        Call::Judge => judge(fields, room, text),
+        Call::Open => open(fields, room, text),
+        Call::OpenOr => open_or(fields, room, text),
+        Call::OpenOrKeep => open_or_keep(fields, room, text),
+        Call::Encode => encode(fields, room, text),
+        Call::Write => write(fields, room, text),
     }
 }

@@ -12,29 +12,30 @@ mod show;
 mod text;
 
 use fields::{Fields, Room};
-use std::io::{self, Read};
-use text::Line;
+use std::io::Read;
+use text::{Line, Text};
 
-// Answers a question, if the line is one.
-fn replied(rt: &impl Print, line: &Line, room: &mut Room) -> Option<io::Result<()>> {
+// Puts the answer to a question, if the line is one.
+fn replied(line: &Line, room: &mut Room, text: &mut Text) -> Option<()> {
     let mut bytes = [0u8; 8192];
     let rest = line.bytes(&mut bytes)?;
     let mut fields = Fields { rest };
-    calls::made(rt, &mut fields, room)
+    calls::made(&mut fields, room, text)
 }
 
-// Answers a line. That an answer cannot be written changes nothing for the next line.
-fn answer(rt: &impl Print, line: &Line, room: &mut Room) {
-    if replied(rt, line, room).is_none() {
-        let _ = println!(rt; "?");
+// Answers a line.
+fn answer(line: &Line, room: &mut Room, text: &mut Text) {
+    match replied(line, room, text) {
+        Some(()) => text.write(),
+        None => text::write_unknown(),
     }
 }
 
 // Takes a part of the input: each line that ends in it is answered.
-fn take(rt: &impl Print, part: &[u8], line: &mut Line, room: &mut Room) {
+fn take(part: &[u8], line: &mut Line, room: &mut Room, text: &mut Text) {
     for c in part {
         if *c == b'\n' {
-            answer(rt, line, room);
+            answer(line, room, text);
             line.clear();
         } else {
             line.put(*c);
@@ -48,14 +49,15 @@ fn main(rt: HostRuntime) {
     let mut part = [0u8; 65536];
     let mut line = Line::new();
     let mut room = Room::new();
+    let mut text = Text::new();
     for _ in 0..u64::MAX {
         let n = rt.stdin().read(&mut part).unwrap_or(0);
         if n == 0 {
             break;
         }
-        take(&rt, &part[..n], &mut line, &mut room);
+        take(&part[..n], &mut line, &mut room, &mut text);
     }
     if !line.is_empty() {
-        answer(&rt, &line, &mut room);
+        answer(&line, &mut room, &mut text);
     }
 }

@@ -1,86 +1,79 @@
-// Answers, as characters.
-use crate::text::Hex;
-use keys::{KeySet, Made};
-use numbers::{Refusal, told};
-use std::{fmt, io};
-use stream::Stream;
-use tag::Counts;
+// Answers, as characters: what each call hands back, as the library itself tells it.
+use crate::text::Text;
+use frame::FrameAnswer;
+use hex_line::LineAnswer;
+use keys::{KeyAnswer, KeySet};
+use stream::{Added, Stream};
+use tag::TagAnswer;
+use writer::Written;
 
-// No steps of either kind.
-pub(crate) const NO_COUNTS: Counts = Counts { whole: 0, four: 0 };
-
-// A key set, field by field.
-#[derive(Drop)]
-pub(crate) struct Keys<'a>(pub &'a KeySet);
-
-impl fmt::Display for Keys<'_> {
-    fn fmt<W: fmt::Write>(&self, f: &mut fmt::Formatter<W>) -> fmt::Result {
-        let KeySet {
-            order,
-            bits,
-            round,
-            subkeys,
-            full,
-            short,
-        } = self.0;
-        write!(f, "{order:02X}{bits:02X}{}{}", Hex(round), Hex(subkeys))?;
-        write!(f, "{}{}", Hex(full), Hex(short))
+impl Text {
+    // A key set, field by field.
+    fn key_set(&mut self, set: &KeySet) {
+        self.bytes(&[set.order, set.bits]);
+        self.bytes(&set.round);
+        self.bytes(&set.subkeys);
+        self.bytes(&set.full);
+        self.bytes(&set.short);
     }
-}
 
-// A stream, field by field.
-#[derive(Drop)]
-pub(crate) struct State<'a>(pub &'a Stream);
-
-impl fmt::Display for State<'_> {
-    fn fmt<W: fmt::Write>(&self, f: &mut fmt::Formatter<W>) -> fmt::Result {
-        let Stream {
-            total,
-            value,
-            held,
-            count,
-            whole,
-            four,
-        } = self.0;
-        write!(f, "{total:016X}{}{}", Hex(value), Hex(held))?;
-        write!(f, "{count:016X}{whole:016X}{four:016X}")
+    // The steps of both kinds.
+    fn counts(&mut self, whole: usize, four: usize) {
+        self.number(whole);
+        self.number(four);
     }
-}
 
-// Bytes that are handed back: how many, and each.
-#[derive(Drop)]
-pub(crate) struct Part<'a>(pub &'a [u8]);
-
-impl fmt::Display for Part<'_> {
-    fn fmt<W: fmt::Write>(&self, f: &mut fmt::Formatter<W>) -> fmt::Result {
-        write!(f, "{:016X}{}", self.0.len(), Hex(self.0))
+    // What a call answers that makes a key set.
+    pub(crate) fn key_answer(&mut self, a: KeyAnswer) {
+        self.byte(a.number);
+        self.number(a.steps);
+        self.key_set(&a.keys);
     }
-}
 
-// The steps of both kinds.
-#[derive(Drop)]
-pub(crate) struct Steps(pub Counts);
-
-impl fmt::Display for Steps {
-    fn fmt<W: fmt::Write>(&self, f: &mut fmt::Formatter<W>) -> fmt::Result {
-        write!(f, "{:016X}{:016X}", self.0.whole, self.0.four)
+    // A stream, field by field.
+    pub(crate) fn stream(&mut self, s: &Stream) {
+        self.number(s.total);
+        self.bytes(&s.value);
+        self.bytes(&s.held);
+        self.number(s.count);
+        self.counts(s.whole, s.four);
     }
-}
 
-// The number that is told of an outcome, and what it carries: the given value, where it is a refusal.
-pub(crate) fn told_or<T: Drop>(outcome: Result<T, Refusal>, otherwise: T) -> (u8, T) {
-    match outcome {
-        Ok(value) => (told(Ok(())), value),
-        Err(why) => (told(Err(why)), otherwise),
+    // What adding answers.
+    pub(crate) fn added(&mut self, a: Added) {
+        self.byte(a.number);
+        self.stream(&a.stream);
     }
-}
 
-// Writes what a call answers that makes a key set. Of a refusal a set of zeros is shown.
-pub(crate) fn key_outcome(rt: &impl Print, outcome: Result<Made, Refusal>) -> io::Result<()> {
-    let zeros = Made {
-        steps: 0,
-        keys: keys::no_set(),
-    };
-    let (number, made) = told_or(outcome, zeros);
-    println!(rt; "{number:02X}{:016X}{}", made.steps, Keys(&made.keys))
+    // What a call that makes or checks a tag answers.
+    pub(crate) fn tag_answer(&mut self, a: TagAnswer) {
+        self.byte(a.number);
+        self.counts(a.whole, a.four);
+    }
+
+    // What decoding a line or encoding bytes answers.
+    pub(crate) fn line_answer(&mut self, a: LineAnswer) {
+        self.byte(a.number);
+        self.number(a.written);
+    }
+
+    // What judging a frame answers.
+    pub(crate) fn frame_answer(&mut self, a: FrameAnswer) {
+        self.byte(a.number);
+        self.counts(a.whole, a.four);
+        self.number(a.body);
+    }
+
+    // What writing a frame line answers.
+    pub(crate) fn written(&mut self, a: Written) {
+        self.byte(a.number);
+        self.counts(a.whole, a.four);
+        self.number(a.written);
+    }
+
+    // Bytes that are handed back: how many, and each.
+    pub(crate) fn part(&mut self, bytes: &[u8]) {
+        self.number(bytes.len());
+        self.bytes(bytes);
+    }
 }

@@ -1,4 +1,6 @@
 // The standard streams of a program, and what it says of a read or a write that failed.
+ghost use Rattle.std.specs.Prelude.{◌≤◌, length};
+
 use std::io;
 use std::io::{Error, ErrorKind, Stderr, Stdin, Stdout, Write};
 
@@ -46,7 +48,9 @@ impl Streams<'_> {
 
 // The system's words for an error, in a space. Behind them std writes the error's number, " (os error 9)",
 // which goes unsaid.
-fn words(why: Error, space: &mut [u8; 128]) -> &[u8] {
+fn words(why: Error, space: &mut [u8; 128]) -> &[u8]
+    ensures { length result.now ≤ 128 }
+{
     let mut rest = &mut space[..];
     let _ = write!(rest, "{why}");
     let left = rest.len();

@@ -8,7 +8,8 @@ use Rattle.numbers.specs.declared.Refusal.{Refusal}
 use Rattle.numbers.specs.Told.{number_of}
 use Rattle.numbers.proofs.Number.{not_done}
 use Rattle.keys.specs.declared.Made.{Made}
-use Rattle.keys.specs.Told.{KeyAnswer, no_set, told_keys}
+use Rattle.keys.specs.Told.{no_set, told_keys}
+use Rattle.keys.specs.declared.KeyAnswer.{KeyAnswer}
 use Rattle.keyline.specs.KeyLine.{key_line_answer}
 use Rattle.frame.specs.declared.FrameAnswer.{FrameAnswer}
 use Rattle.frame.specs.Frame.{refused_frame}

@@ -7,7 +7,8 @@ use Rattle.laws.proofs.Cases.{below_or_not}
 use Rattle.keys.specs.declared.KeySet.{KeySet}
 use Rattle.numbers.specs.declared.Refusal.TheVariants.{BadLength}
 use Rattle.numbers.specs.Told.{number_of}
-use Rattle.keys.specs.Told.{KeyAnswer, told_keys}
+use Rattle.keys.specs.Told.{told_keys}
+use Rattle.keys.specs.declared.KeyAnswer.{KeyAnswer}
 use Rattle.keyline.specs.KeyLine.{key_line_answer}
 use Rattle.keyline.proofs.Answered.{number_length as key-length, read_refused}
 use Rattle.hex_line.proofs.Outcome.{number_length as line_length}

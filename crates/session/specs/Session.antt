@@ -4,7 +4,8 @@
 use Rattle.std.specs.Prelude.{Bool, List, [], ℕ, eqb, leb, length, take}
 use Rattle.laws.specs.Pick.{pick}
 use Rattle.keys.specs.declared.KeySet.{KeySet}
-use Rattle.keys.specs.Told.{KeyAnswer, no_set}
+use Rattle.keys.specs.Told.{no_set}
+use Rattle.keys.specs.declared.KeyAnswer.{KeyAnswer}
 use Rattle.numbers.specs.Numbers.{done}
 use Rattle.keyline.specs.KeyLine.{key_line_answer}
 use Rattle.lines.specs.Reader.{Reader}

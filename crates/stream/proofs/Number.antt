@@ -23,7 +23,8 @@ use Rattle.judge.proofs.Faultless.{stream_formed, formed_stream, length_fits, fi
 use Rattle.numbers.specs.declared.Refusal.{Refusal}
 use Rattle.numbers.specs.Told.{number}
 use Rattle.numbers.proofs.Number.{not_done}
-use Rattle.stream.specs.Told.{Added, told_added}
+use Rattle.stream.specs.Told.{told_added}
+use Rattle.stream.specs.declared.Added.{Added}
 use Rattle.stream.specs.Promise.{AddPromise}
 use Rattle.stream.specs.Answer.{add_number, added_to, add_answer, close_number}
 

@@ -14,7 +14,7 @@ use Rattle.pcmac.proofs.Tagver.{accepted_equal, spare_set}
 use Rattle.keys.specs.declared.KeySet.{KeySet}
 use Rattle.keys.specs.KeysIn.{keys_in}
 use Rattle.keys.specs.SetNumber.{set_number}
-use Rattle.tag.specs.Told.{TagAnswer}
+use Rattle.tag.specs.declared.TagAnswer.{TagAnswer}
 use Rattle.tag.specs.Tag.{tag_bytes}
 use Rattle.tag.proofs.Answered.{making_number}
 use Rattle.tag.proofs.Tagged.{cut_within}
@@ -23,7 +23,7 @@ use Rattle.judge.specs.declared.Stream.{Stream}
 use Rattle.judge.specs.Stream.{formed, held_of, view_of, stream_of}
 use Rattle.judge.proofs.Held.{Fine, held_count}
 use Rattle.judge.proofs.Zeros.{zeros_are}
-use Rattle.stream.specs.Told.{Added}
+use Rattle.stream.specs.declared.Added.{Added}
 use Rattle.stream.specs.Answer.{added_to, close_number, closed}
 use Rattle.stream.specs.Promise.{StartPromise, AddPromise, ClosePromise, CheckPromise}
 use Rattle.stream.proofs.Adding.{added_total, added_room}

@@ -11,13 +11,13 @@ use Rattle.keys.specs.declared.KeySet.{KeySet}
 use Rattle.keys.specs.KeysIn.{keys_in}
 use Rattle.numbers.specs.Numbers.{done}
 use Rattle.keys.specs.SetNumber.{set_number}
-use Rattle.tag.specs.Told.{TagAnswer}
+use Rattle.tag.specs.declared.TagAnswer.{TagAnswer}
 use Rattle.tag.specs.Answer.{making_answer, making_slice, checking_answer}
 use Rattle.tag.specs.Fault.{size_number}
 use Rattle.judge.specs.declared.Stream.{Stream}
 use Rattle.judge.specs.Stream.{chain_of, held_of, view_of, stream_of}
 use Rattle.judge.specs.Fault.{stream_number, length_number, empty_number}
-use Rattle.stream.specs.Told.{Added}
+use Rattle.stream.specs.declared.Added.{Added}
 
 -- the number of the first fault where a part of n bytes is added: 1, 2, 4, 5
 unfoldable pub add_number : KeySet → Stream → ℕ → ℕ

@@ -3,10 +3,10 @@
 use Rattle.std.specs.Prelude.{◌≡◌, List, ℕ, length}
 use Rattle.laws.proofs.Once.{once}
 use Rattle.keys.specs.declared.KeySet.{KeySet}
-use Rattle.tag.specs.Told.{TagAnswer}
+use Rattle.tag.specs.declared.TagAnswer.{TagAnswer}
 use Rattle.judge.specs.declared.Stream.{Stream}
 use Rattle.judge.specs.Stream.{started}
-use Rattle.stream.specs.Told.{Added}
+use Rattle.stream.specs.declared.Added.{Added}
 use Rattle.stream.specs.Answer.{add_answer, close_answer, close_slice, check_answer}
 
 -- start hands back the stream of no bytes

@@ -1,17 +1,13 @@
 -- What adding hands back, told as the outline tells it: its number, and the stream, which is the one that was given where it refuses.
 -- Assumes nothing.
-use Rattle.std.specs.Prelude.{◌≡◌, Result, Ok, Err, ℕ}
+use Rattle.std.specs.Prelude.{◌≡◌, Result, Ok, Err}
 use Rattle.std.proofs.Common.{ap, sym}
 use Rattle.numbers.specs.Numbers.{done}
 use Rattle.numbers.specs.Told.{number_of}
 use Rattle.numbers.proofs.Number.{not_done, number_of_once}
 use Rattle.numbers.specs.declared.Refusal.{Refusal}
 use Rattle.judge.specs.declared.Stream.{Stream}
-
--- the number, and the stream
-pub record Added : Type 0 where
-  pub number : ℕ
-  pub stream : Stream
+use Rattle.stream.specs.declared.Added.{Added}
 
 -- 0 and the stream with the part, or the number of the refusal and the stream s as it was given
 unfoldable pub told_added : Stream → Result Stream Refusal → Added

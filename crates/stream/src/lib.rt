@@ -22,7 +22,30 @@ use chain::Chain;
 pub use judge::Stream;
 use keys::KeySet;
 use numbers::Refusal;
-pub use tag::{Checked, Counts};
+pub use tag::{Checked, Counts, TagAnswer};
+
+// What adding to a stream hands back, as it is told: its number, and the stream, which is the one that was given where it
+// refuses.
+#[derive(Clone, Copy)]
+pub struct Added {
+    pub number: u8,
+    pub stream: Stream,
+}
+
+impl From<(Stream, Result<Stream, Refusal>)> for Added {
+    ghost from_gives = { λ added answer. answer ≡ told_added added.0 added.1 };
+
+    fn from(added: (Stream, Result<Stream, Refusal>)) -> Added {
+        let (given, outcome) = added;
+        match outcome {
+            Ok(stream) => Added { number: 0, stream },
+            Err(why) => Added {
+                number: numbers::told(Err(why)),
+                stream: given,
+            },
+        }
+    }
+}
 
 // A stream of no bytes.
 pub fn start() -> Stream

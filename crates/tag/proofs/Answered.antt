@@ -22,7 +22,8 @@ use Rattle.numbers.specs.Told.{number, number_of}
 use Rattle.numbers.proofs.Number.{not_done}
 use Rattle.tag.specs.declared.Checked.{Checked}
 use Rattle.tag.specs.declared.Counts.{Counts}
-use Rattle.tag.specs.Told.{TagAnswer, told_made, told_checked}
+use Rattle.tag.specs.Told.{told_made, told_checked}
+use Rattle.tag.specs.declared.TagAnswer.{TagAnswer}
 use Rattle.tag.specs.Inner.{Sealed}
 use Rattle.tag.specs.Promise.{WritePromise, ComparePromise}
 use Rattle.tag.proofs.Number.{suited}

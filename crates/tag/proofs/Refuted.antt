@@ -12,7 +12,7 @@ use Rattle.block.proofs.Digits.{bytes_spell}
 use Rattle.chain.specs.declared.Chain.{Chain}
 use Rattle.pcmac.specs.Tagver.{accepted}
 use Rattle.pcmac.proofs.Tagver.{accepted_equal, equal_accepted, spare_set}
-use Rattle.tag.specs.Told.{TagAnswer}
+use Rattle.tag.specs.declared.TagAnswer.{TagAnswer}
 use Rattle.tag.specs.Answer.{tagged_by, refused_tag, checked_tag}
 use Rattle.tag.specs.Difference.{differences}
 use Rattle.tag.specs.Fault.{tag_number}

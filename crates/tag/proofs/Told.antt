@@ -6,7 +6,7 @@ use Rattle.laws.proofs.Cases.{none_told}
 use Rattle.block.specs.Bits.{bits}
 use Rattle.pcmac.specs.Taggen.{Tagged}
 use Rattle.pcmac.specs.Tagver.{accepted}
-use Rattle.tag.specs.Told.{TagAnswer}
+use Rattle.tag.specs.declared.TagAnswer.{TagAnswer}
 use Rattle.tag.specs.Answer.{refused_tag, checked_tag, making_answer, making_slice, checking_answer}
 use Rattle.tag.proofs.Answered.{making_refused, making_left, making_number, checking_refused, checking_is, checking_number}
 

@@ -8,7 +8,7 @@ use Rattle.chain.specs.declared.Chain.{Chain}
 use Rattle.pcmac.specs.Taggen.{Tagged}
 use Rattle.pcmac.specs.Tagver.{accepted}
 use Rattle.numbers.specs.Numbers.{done, tag_differs}
-use Rattle.tag.specs.Told.{TagAnswer}
+use Rattle.tag.specs.declared.TagAnswer.{TagAnswer}
 
 -- the tag's bits and the counts, out of the chain after the closing step: its value is E(h), of which the tag is the first p bits
 unfoldable pub tagged_by : ℕ → Chain → Tagged

@@ -3,7 +3,7 @@
 use Rattle.std.specs.Prelude.{◌≡◌, List, ℕ, length}
 use Rattle.laws.proofs.Once.{once}
 use Rattle.chain.specs.declared.Chain.{Chain}
-use Rattle.tag.specs.Told.{TagAnswer}
+use Rattle.tag.specs.declared.TagAnswer.{TagAnswer}
 use Rattle.tag.specs.Fault.{size_number, tag_number}
 use Rattle.tag.specs.Tag.{tag_bytes}
 use Rattle.tag.specs.Answer.{tagged_by, refused_tag, making_answer, making_slice, checking_answer}
@@ -16,11 +16,11 @@ SizePromise p r = r ≡ tag_bytes p
 pub size_once : (p r r' : ℕ) → SizePromise p r → SizePromise p r' → r ≡ r'
 size_once p r r' a b = once a b
 
--- unchecked hands back the number of the refusal and no counts
+-- refused hands back its number and no counts; unchecked, told, the number of the refusal and none
 abbrev pub RefusedPromise : ℕ → TagAnswer → Type 0
 RefusedPromise number r = r ≡ refused_tag number
 
--- any two answers that unchecked may give are equal
+-- any two answers that refused may give are equal, and any two that unchecked may
 pub refused_once : (number : ℕ) (r r' : TagAnswer) → RefusedPromise number r → RefusedPromise number r' → r ≡ r'
 refused_once number r r' a b = once a b
 

@@ -1,19 +1,14 @@
 -- What the calls that make or check a tag hand back, told as the outline tells it: a number and both counts, none where a call refuses.
 -- Assumes nothing.
-use Rattle.std.specs.Prelude.{◌≡◌, Result, Ok, Err, ℕ}
+use Rattle.std.specs.Prelude.{◌≡◌, Result, Ok, Err}
 use Rattle.std.proofs.Common.{ap, sym}
 use Rattle.numbers.specs.Numbers.{done}
 use Rattle.numbers.specs.Told.{number, number_of}
 use Rattle.numbers.proofs.Number.{not_done, number_of_once, number_once}
 use Rattle.numbers.specs.declared.Refusal.{Refusal}
+use Rattle.tag.specs.declared.TagAnswer.{TagAnswer}
 use Rattle.tag.specs.declared.Counts.{Counts}
 use Rattle.tag.specs.declared.Checked.{Checked}
-
--- the number, and the steps of each kind
-pub record TagAnswer : Type 0 where
-  pub number : ℕ
-  pub whole : ℕ
-  pub four : ℕ
 
 -- of a call that makes a tag: 0 and the counts, or the number of the refusal and none
 unfoldable pub told_made : Result Counts Refusal → TagAnswer

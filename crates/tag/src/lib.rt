@@ -64,11 +64,60 @@ pub struct Checked {
     pub counts: Counts,
 }
 
+// What a call that makes or checks a tag hands back, as it is told: its number, and the steps of each kind, none where
+// it refuses.
+#[derive(Clone, Copy)]
+pub struct TagAnswer {
+    pub number: u8,
+    pub whole: usize,
+    pub four: usize,
+}
+
+// Of a call that makes a tag.
+impl From<Result<Counts, Refusal>> for TagAnswer {
+    ghost from_gives = { λ outcome answer. answer ≡ told_made outcome };
+
+    fn from(outcome: Result<Counts, Refusal>) -> TagAnswer {
+        match outcome {
+            Ok(counts) => TagAnswer {
+                number: 0,
+                whole: counts.whole,
+                four: counts.four,
+            },
+            Err(why) => refused(numbers::told(Err(why))),
+        }
+    }
+}
+
+// Of a call that checks a tag.
+impl From<Checked> for TagAnswer {
+    ghost from_gives = { λ checked answer. answer ≡ told_checked checked };
+
+    fn from(checked: Checked) -> TagAnswer {
+        TagAnswer {
+            number: numbers::told(checked.outcome),
+            whole: checked.counts.whole,
+            four: checked.counts.four,
+        }
+    }
+}
+
 // How many bytes a tag of so many bits occupies.
 pub fn size(bits: u8) -> usize
     ensures { SizePromise bits result }
 {
     (bits as usize).div_ceil(8)
+}
+
+// A refusal, by its number, which may be any, is told with no steps.
+pub fn refused(number: u8) -> TagAnswer
+    ensures { RefusedPromise number result }
+{
+    TagAnswer {
+        number,
+        whole: 0,
+        four: 0,
+    }
 }
 
 // The verdict where nothing was checked: why, and no steps.

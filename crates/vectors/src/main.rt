@@ -14,8 +14,10 @@ mod text;
 
 ghost use Rattle.std.specs.Prelude.{◌<◌};
 
-use std::io::Read;
-use text::{Hex, Line};
+use text::Line;
+
+// The file descriptor of standard input.
+const STDIN: i32 = 0;
 
 // Round key i of a schedule.
 fn round_key(w: &[u8; 176], i: usize) -> [u8; 16]
@@ -30,44 +32,34 @@ fn four(w: &[u8; 176], block: [u8; 16]) -> [u8; 16] {
     aes::four_rounds(round_key(w, 1), round_key(w, 2), round_key(w, 3), block)
 }
 
-// Writes bytes on a line. That a line cannot be written changes nothing for the next one.
-fn write(rt: &impl Print, bytes: &[u8]) {
-    let _ = println!(rt; "{}", Hex(bytes));
-}
-
-// A line that is no question.
-fn unknown(rt: &impl Print) {
-    let _ = println!(rt; "?");
-}
-
 // Answers a line under the schedule w of the last key, which a line may change.
-fn answer(rt: &impl Print, w: &mut [u8; 176], line: Line) {
+fn answer(w: &mut [u8; 176], line: Line) {
     let bytes = line.bytes;
     match line.letter {
         b'K' => *w = aes::expand_key(bytes),
-        b'P' => write(rt, &aes::encrypt_block(w, bytes)),
-        b'G' => write(rt, &four(w, bytes)),
-        b'D' => write(rt, &block::double(bytes)),
+        b'P' => text::write(&aes::encrypt_block(w, bytes)),
+        b'G' => text::write(&four(w, bytes)),
+        b'D' => text::write(&block::double(bytes)),
         b'W' => {
             for word in aes::expand_key(bytes).chunks_exact(4) {
-                write(rt, word);
+                text::write(word);
             }
         }
-        _ => unknown(rt),
+        _ => text::write_unknown(),
     }
 }
 
 // A proved loop has to end, and nothing says that the input does: it has as many turns as no run uses up.
-fn main(rt: HostRuntime) {
+fn main() {
     let mut w = aes::expand_key([0u8; 16]);
     for _ in 0..u64::MAX {
         let mut text = [0u8; 34];
-        if rt.stdin().read_exact(&mut text).is_err() {
+        if io::read_full(STDIN, &mut text) < text.len() {
             return;
         }
         match text::parsed(text) {
-            Some(line) => answer(&rt, &mut w, line),
-            None => unknown(&rt),
+            Some(line) => answer(&mut w, line),
+            None => text::write_unknown(),
         }
     }
 }

@@ -9,7 +9,8 @@ use Rattle.numbers.specs.Told.{number_of}
 use Rattle.numbers.proofs.Number.{not_done}
 use Rattle.keys.specs.declared.KeySet.{KeySet}
 use Rattle.tag.specs.declared.Counts.{Counts}
-use Rattle.tag.specs.Told.{TagAnswer, told_made}
+use Rattle.tag.specs.Told.{told_made}
+use Rattle.tag.specs.declared.TagAnswer.{TagAnswer}
 use Rattle.tag.specs.Answer.{made_tag}
 use Rattle.tag.specs.Tag.{tag_bytes}
 use Rattle.tag.proofs.Answered.{making_is, slice_is}
@@ -22,7 +23,8 @@ use Rattle.hex_line.specs.Answer.{written_space}
 use Rattle.hex_line.specs.Promise.{EncodePromise}
 use Rattle.hex_line.proofs.BothWays.{encoded_length, encoded_append}
 use Rattle.hex_line.proofs.Told.{encoded_before, encoded_all, encoded_refused}
-use Rattle.writer.specs.Told.{Written, told_write}
+use Rattle.writer.specs.Told.{told_write}
+use Rattle.writer.specs.declared.Written.{Written}
 use Rattle.writer.specs.Line.{write_number, frame_of, line_of, refused_write, done_write, write_answer}
 use Rattle.writer.specs.Promise.{WritePromise}
 use Rattle.writer.proofs.Number.{Fits, writes_told}

@@ -11,7 +11,7 @@ use Rattle.message.specs.Answer.{tagged}
 use Rattle.hex_line.specs.Digit.{character_of}
 use Rattle.hex_line.proofs.BothWays.{encoded_length, encoded_high}
 use Rattle.frame.specs.Frame.{longest_frame}
-use Rattle.writer.specs.Told.{Written}
+use Rattle.writer.specs.declared.Written.{Written}
 use Rattle.writer.specs.Line.{frame_of, line_of, done_write}
 use Rattle.writer.specs.Promise.{WritePromise}
 use Rattle.writer.proofs.Number.{write_cramped}

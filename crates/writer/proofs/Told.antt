@@ -6,7 +6,7 @@ use Rattle.std.proofs.Math.Seq.{take-append_seam}
 use Rattle.laws.specs.Pick.{pick}
 use Rattle.keys.specs.declared.KeySet.{KeySet}
 use Rattle.hex_line.specs.Answer.{written_space}
-use Rattle.writer.specs.Told.{Written}
+use Rattle.writer.specs.declared.Written.{Written}
 use Rattle.writer.specs.Line.{least_room, write_number, line_of, refused_write, done_write, write_answer}
 use Rattle.writer.specs.Promise.{WritePromise}
 use Rattle.writer.proofs.Number.{Fits, writes_told}

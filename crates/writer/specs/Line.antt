@@ -13,7 +13,7 @@ use Rattle.message.specs.Answer.{tagged}
 use Rattle.hex_line.specs.Line.{encoded}
 use Rattle.hex_line.specs.Answer.{written_space}
 use Rattle.frame.specs.Frame.{longest_frame}
-use Rattle.writer.specs.Told.{Written}
+use Rattle.writer.specs.declared.Written.{Written}
 
 -- the least bytes of the space: two characters for each byte of the longest frame
 abbrev pub least_room : ℕ

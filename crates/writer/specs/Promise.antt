@@ -3,7 +3,7 @@
 use Rattle.std.specs.Prelude.{◌≡◌, List, ℕ, length}
 use Rattle.laws.proofs.Once.{once}
 use Rattle.keys.specs.declared.KeySet.{KeySet}
-use Rattle.writer.specs.Told.{Written}
+use Rattle.writer.specs.declared.Written.{Written}
 use Rattle.writer.specs.Line.{write_answer, write_space}
 
 -- write hands back 0, the counts of the body's tag and how many characters it wrote, and the space then holds the frame line of the body

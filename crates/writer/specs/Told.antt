@@ -1,20 +1,14 @@
 -- What writing a line hands back, told as the outline tells it: a number, the counts of the tag, and how many characters were written;
 -- zeros where it refuses.
 -- Assumes nothing.
-use Rattle.std.specs.Prelude.{◌≡◌, Result, Ok, Err, ℕ}
+use Rattle.std.specs.Prelude.{◌≡◌, Result, Ok, Err}
 use Rattle.std.proofs.Common.{ap, sym}
 use Rattle.numbers.specs.declared.Refusal.{Refusal}
 use Rattle.numbers.specs.Numbers.{done}
 use Rattle.numbers.specs.Told.{number_of}
 use Rattle.numbers.proofs.Number.{not_done, number_of_once}
 use Rattle.writer.specs.declared.FrameLine.{FrameLine}
-
--- the number, the steps of each kind that the tag took, and how many characters were written
-pub record Written : Type 0 where
-  pub number : ℕ
-  pub whole : ℕ
-  pub four : ℕ
-  pub written : ℕ
+use Rattle.writer.specs.declared.Written.{Written}
 
 -- 0, the counts and the length; or the number of the refusal, and zeros
 unfoldable pub told_write : Result FrameLine Refusal → Written

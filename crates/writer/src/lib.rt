@@ -26,6 +26,37 @@ pub struct FrameLine {
     pub length: usize,
 }
 
+// What writing a line hands back, as it is told: its number, the steps of each kind that its tag took, and how many
+// characters it has, zeros where it refuses.
+#[derive(Clone, Copy)]
+pub struct Written {
+    pub number: u8,
+    pub whole: usize,
+    pub four: usize,
+    pub written: usize,
+}
+
+impl From<Result<FrameLine, Refusal>> for Written {
+    ghost from_gives = { λ outcome answer. answer ≡ told_write outcome };
+
+    fn from(outcome: Result<FrameLine, Refusal>) -> Written {
+        match outcome {
+            Ok(line) => Written {
+                number: 0,
+                whole: line.counts.whole,
+                four: line.counts.four,
+                written: line.length,
+            },
+            Err(why) => Written {
+                number: numbers::told(Err(why)),
+                whole: 0,
+                four: 0,
+                written: 0,
+            },
+        }
+    }
+}
+
 // The first fault of a space of so many bytes and a body of n.
 fn fault(keys: KeySet, room: usize, n: usize) -> Result<(), Refusal>
     ensures { number result ≡ write_number keys room n }

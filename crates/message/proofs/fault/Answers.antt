@@ -4,7 +4,7 @@ use Rattle.std.proofs.Common.{ap, ◌∙◌, zero-add}
 use Rattle.laws.proofs.Fault.{fault_last}
 use Rattle.numbers.specs.Told.{number}
 use Rattle.judge.specs.Fault.{length_number}
-use Rattle.judge.proofs.First.{first_err, first_ok}
+use Rattle.judge.proofs.HandedOn.{first_err, first_ok}
 use Rattle.message.specs.Answer.{message_number}
 use Rattle.numbers.proofs.Number.{handed_on}
 use Rattle.message.proofs.fault.Goals as goal

@@ -1,12 +1,12 @@
 -- `program::run` meets its contract. Turn by turn; one read fewer is left each time.
 -- Assumes nothing.
-use Rattle.std.specs.Prelude.{refl, ◌≤◌, length}
+use Rattle.std.specs.Prelude.{◌≤◌, length}
 use Rattle.std.proofs.Common.{sym, ◌∙◌, arith, rules}
 use denote.Enum.Bare.{differs_true, differs_false}
 use Rattle.program.specs.contracts.Reason.{the_type}
 use Rattle.session.specs.Session.{width}
 use Rattle.session.proofs.Telling.{width_most}
-use Rattle.program.proofs.Running.{runs_more, runs_stop, runs_none}
+use Rattle.program.proofs.Running.{runs_more, runs_stop}
 use Rattle.program.proofs.run.Goals as goal
 use Rattle.program.proofs.run.Goals.{At-loop-left}
 

@@ -2,7 +2,7 @@
 -- Assumes nothing.
 use Rattle.laws.proofs.Fault.{fault_last}
 use Rattle.numbers.specs.Told.{number}
-use Rattle.judge.proofs.First.{first_err, first_ok}
+use Rattle.judge.proofs.HandedOn.{first_err, first_ok}
 use Rattle.stream.specs.Answer.{add_number}
 use Rattle.numbers.proofs.Number.{handed_on}
 use Rattle.stream.proofs.add_fault.Goals as goal
